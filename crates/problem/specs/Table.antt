@@ -1,0 +1,65 @@
+-- 01, The span table: numbers in bytes, the arc of 16 bytes, its faults, the table. Assumes nothing.
+use Prim.Native.Nat.{ℕ, zero, suc, _+_, _*_, _/_, _%_}
+use mathlib.Core.Bool.{Bool, true, false, _&&_, _||_, not}
+use mathlib.Core.List.{List, [], _∷_}
+use lib.Dec.{eqb, ltb}
+use lib.ListN.{length, getD, take, drop}
+use Rattle.laws.specs.Choice.{if_then_else_}
+use Rattle.problem.specs.declared.Arc.{Arc}
+use Rattle.problem.specs.declared.Fault.{Fault}
+use Rattle.problem.specs.declared.Fault.the-variants.{Sound, Node, EqualEnds, Length, Spare}
+use Rattle.problem.specs.Limits.{arcSize, lastNode, mostArcMetres}
+
+-- the number that n bytes from `at` on say, little-endian
+unfoldable pub numberAt : List ℕ → ℕ → ℕ → ℕ
+numberAt bytes at zero = 0
+numberAt bytes at (suc n) = getD bytes at 0 + 256 * numberAt bytes (suc at) n
+
+-- a number as n bytes, little-endian
+unfoldable pub bytesOf : ℕ → ℕ → List ℕ
+bytesOf zero x = []
+bytesOf (suc n) x = x % 256 ∷ bytesOf n (x / 256)
+
+-- the arc that 16 bytes say
+unfoldable pub arcOf : List ℕ → Arc
+arcOf bytes =
+    record {
+      tail = getD bytes 0 0;
+      head = getD bytes 1 0;
+      spare = numberAt bytes 2 2;
+      metres = numberAt bytes 4 4;
+      risks = numberAt bytes 8 8;
+    }
+
+-- the first n arcs of a table; arc number = position, from 0
+unfoldable pub firstArcs : ℕ → List ℕ → List Arc
+firstArcs zero bytes = []
+firstArcs (suc n) bytes = arcOf (take arcSize bytes) ∷ firstArcs n (drop arcSize bytes)
+
+unfoldable pub arcsOf : List ℕ → List Arc
+arcsOf table = firstArcs (length table / arcSize) table
+
+-- what stands for an arc past the table's end
+abbrev pub noArc : Arc
+noArc = record { tail = 0; head = 0; spare = 0; metres = 0; risks = 0 }
+
+-- the first fault of an arc, in order
+unfoldable pub faultOf : Arc → Fault
+faultOf a =
+    if ltb lastNode (a .tail) || ltb lastNode (a .head) then Node
+    else (if eqb (a .tail) (a .head) then EqualEnds
+    else (if ltb mostArcMetres (a .metres) then Length
+    else (if not (eqb (a .spare) 0) then Spare
+    else Sound)))
+
+abbrev pub isSound : Fault → Bool
+isSound Sound = true
+isSound Node = false
+isSound EqualEnds = false
+isSound Length = false
+isSound Spare = false
+
+-- every field of every arc is in its range
+unfoldable pub allSound : List Arc → Bool
+allSound [] = true
+allSound (a ∷ arcs) = isSound (faultOf a) && allSound arcs
