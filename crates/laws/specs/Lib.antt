@@ -1,4 +1,2 @@
-pub mod Choice
-pub mod Lists
-pub mod Order
+pub mod Choosing
 pub mod Sets

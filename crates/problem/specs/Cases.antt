@@ -4,9 +4,10 @@ use mathlib.Core.List.{List, [], _∷_, _++_, map}
 use mathlib.Core.Path.{_≡_, refl}
 use lib.ListN.{length, replicate}
 use Rattle.problem.specs.Opened.{opened}
-use Rattle.problem.specs.Table.{bytesOf}
+use Rattle.problem.specs.Table.{bytesOf, arcsOf}
+use Rattle.problem.specs.Routes.{freeLengths}
 use Rattle.problem.specs.Reply.{Request, Answer, answer, refuse}
-use Rattle.problem.specs.Printed.{kilometres, output}
+use Rattle.problem.specs.Printed.{kilometres, text, output}
 
 -- an arc as 01 prints it: tail, head, metres, and the field of its risks
 abbrev pub arc : ℕ → ℕ → ℕ → ℕ → List ℕ
@@ -113,19 +114,20 @@ pub starred-K : map kilometres (0 ∷ 1 ∷ 1000 ∷ 1001 ∷ 31984 ∷ []) ≡ 
 unfolding opened
 starred-K = refl
 
--- A1 as the program reads it, and its whole output: `settled 0 0 2`, `main 5 0 1`, `standby 5 2 3`
+-- A1 as the program reads it, and its whole output
 abbrev pub requestA1 : List ℕ
 requestA1 = 0 ∷ 3 ∷ 0 ∷ 0 ∷ [] ++ bytesOf 4 10000 ++ bytesOf 4 1000 ++ bytesOf 4 0
 
-pub printed-A1
-    : output (requestA1 ++ meshA)
-    ≡ 115 ∷ 101 ∷ 116 ∷ 116 ∷ 108 ∷ 101 ∷ 100 ∷ 32 ∷ 48 ∷ 32 ∷ 48 ∷ 32 ∷ 50 ∷ 10
-    ∷ 109 ∷ 97 ∷ 105 ∷ 110 ∷ 32 ∷ 53 ∷ 32 ∷ 48 ∷ 32 ∷ 49 ∷ 10
-    ∷ 115 ∷ 116 ∷ 97 ∷ 110 ∷ 100 ∷ 98 ∷ 121 ∷ 32 ∷ 53 ∷ 32 ∷ 50 ∷ 32 ∷ 51 ∷ 10 ∷ []
+pub printed-A1 : output (requestA1 ++ meshA) ≡ text "settled 0 0 2\nmain 5 0 1\nstandby 5 2 3\n"
 unfolding opened
 printed-A1 = refl
 
--- `refused 12`: an input under 16 bytes
-pub printed-short : output [] ≡ 114 ∷ 101 ∷ 102 ∷ 117 ∷ 115 ∷ 101 ∷ 100 ∷ 32 ∷ 49 ∷ 50 ∷ 10 ∷ []
+-- an input under 16 bytes
+pub printed-short : output [] ≡ text "refused 12\n"
 unfolding opened
 printed-short = refl
+
+-- the side table of mesh A: free of risk 0 the terminal is 5,000 m from the source; free of 1 and 3 it cannot be reached
+pub shortest-A : map (λ risks. freeLengths (arcsOf meshA) risks 3 0) (1 ∷ 10 ∷ []) ≡ (5000 ∷ []) ∷ [] ∷ []
+unfolding opened
+shortest-A = refl

@@ -1,10 +1,7 @@
-pub mod Limits
 pub mod Table
 pub mod Routes
 pub mod Pairs
-pub mod Settling
 pub mod Reply
 pub mod Printed
-pub mod Distances
 pub mod Opened
 pub mod Cases

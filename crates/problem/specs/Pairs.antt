@@ -1,13 +1,13 @@
--- 01, Routes and their ranking: what two routes share, the judgement of pairs, the best pair of a step, the floor. Assumes nothing.
-use Prim.Native.Nat.{ℕ, _+_, _-_, _^_}
-use mathlib.Core.Bool.{Bool}
+-- 01, Routes and their ranking, When a reply is settled: pairs and their judgement, best(j), the floor, settled, J. Ranks are counted from 1. Assumes nothing.
+use Prim.Native.Nat.{ℕ, _+_, _*_, _-_, _^_, min}
+use mathlib.Core.Bool.{Bool, _&&_, _||_}
 use mathlib.Core.List.{List, [], _∷_, _++_, map}
 use lib.Bits.{bitAnd}
 use lib.Count.{onesIn}
-use lib.Dec.{ltb}
-use lib.ListN.{take}
-use Rattle.laws.specs.Order.{lexBy, firstBy}
-use Rattle.problem.specs.Limits.{riskWidth}
+use lib.Dec.{eqb, leb, ltb}
+use lib.ListN.{length, getD, take}
+use Rattle.laws.specs.Choosing.{if_then_else_, leastFrom, lexBy, firstBy}
+use Rattle.problem.specs.Table.{riskWidth}
 use Rattle.problem.specs.Routes.{Route, rankKey}
 
 -- main and standby may be the same route
@@ -38,16 +38,13 @@ unfoldable pub pairsOf : List Route → List Route → List Pair
 pairsOf [] standbys = []
 pairsOf (m ∷ mains) standbys = map (λ s. record { main = m; standby = s }) standbys ++ pairsOf mains standbys
 
--- what stands for a route or a pair where there is none
+-- what stands for a route where there is none
 abbrev pub noRoute : Route
 noRoute = record { arcs = []; metres = 0; risks = 0 }
 
-abbrev pub noPair : Pair
-noPair = record { main = noRoute; standby = noRoute }
-
 -- best(j): the first pair whose main has rank at most j and whose standby is any route
 unfoldable pub best : List Route → ℕ → Pair
-best routes j = firstBy judged noPair (pairsOf (take j routes) routes)
+best routes j = firstBy judged (record { main = noRoute; standby = noRoute }) (pairsOf (take j routes) routes)
 
 -- the risks that lie on every route
 unfoldable pub commonRisks : List Route → ℕ
@@ -56,3 +53,23 @@ commonRisks (r ∷ routes) = bitAnd (r .risks) (commonRisks routes)
 
 unfoldable pub floor : List Route → ℕ
 floor routes = onesIn riskWidth (commonRisks routes)
+
+-- best(j) shares exactly the floor, and twice the length of route j is at least its total
+unfoldable pub settledByLength : List Route → ℕ → Bool
+settledByLength routes j =
+    eqb (sharedCount (best routes j)) (floor routes) && leb (total (best routes j)) (2 * getD routes (j - 1) noRoute .metres)
+
+-- step j is settled
+unfoldable pub settled : List Route → ℕ → Bool
+settled routes j = eqb j (length routes) || settledByLength routes j
+
+-- J: the least settled step
+unfoldable pub leastSettled : List Route → ℕ
+leastSettled routes = leastFrom (settled routes) (length routes) 1
+
+unfoldable pub ranked : List Route → ℕ → ℕ
+ranked routes allowance = min (leastSettled routes) allowance
+
+-- 0 settled, 1 stopped
+unfoldable pub verdict : List Route → ℕ → ℕ
+verdict routes allowance = if leb (leastSettled routes) allowance then 0 else 1

@@ -1,14 +1,41 @@
--- 01, The span table: numbers in bytes, the arc of 16 bytes, its faults, the table. Assumes nothing.
+-- 01, The span table: the limits, numbers in bytes, the arc of 16 bytes, its faults, the table. Assumes nothing.
 use Prim.Native.Nat.{ℕ, zero, suc, _+_, _*_, _/_, _%_}
 use mathlib.Core.Bool.{Bool, true, false, _&&_, _||_, not}
 use mathlib.Core.List.{List, [], _∷_}
 use lib.Dec.{eqb, ltb}
 use lib.ListN.{length, getD, take, drop}
-use Rattle.laws.specs.Choice.{if_then_else_}
+use Rattle.laws.specs.Choosing.{if_then_else_}
 use Rattle.problem.specs.declared.Arc.{Arc}
 use Rattle.problem.specs.declared.Fault.{Fault}
 use Rattle.problem.specs.declared.Fault.the-variants.{Sound, Node, EqualEnds, Length, Spare}
-use Rattle.problem.specs.Limits.{arcSize, lastNode, mostArcMetres}
+
+-- nodes are numbered from 0 to this
+abbrev pub lastNode : ℕ
+lastNode = 31
+
+-- a route of more arcs would meet a node twice
+abbrev pub mostArcs : ℕ
+mostArcs = 31
+
+-- risks are numbered from 0 to one below this
+abbrev pub riskWidth : ℕ
+riskWidth = 64
+
+abbrev pub mostArcMetres : ℕ
+mostArcMetres = 2000000
+
+-- the largest reach, and what number 11 allows a route of the answer
+abbrev pub mostReach : ℕ
+mostReach = 62000000
+
+abbrev pub mostAllowance : ℕ
+mostAllowance = 1000000
+
+abbrev pub mostTableBytes : ℕ
+mostTableBytes = 2048
+
+abbrev pub replySize : ℕ
+replySize = 96
 
 -- the number that n bytes from `at` on say, little-endian
 unfoldable pub numberAt : List ℕ → ℕ → ℕ → ℕ
@@ -22,26 +49,15 @@ bytesOf (suc n) x = x % 256 ∷ bytesOf n (x / 256)
 
 -- the arc that 16 bytes say
 unfoldable pub arcOf : List ℕ → Arc
-arcOf bytes =
-    record {
-      tail = getD bytes 0 0;
-      head = getD bytes 1 0;
-      spare = numberAt bytes 2 2;
-      metres = numberAt bytes 4 4;
-      risks = numberAt bytes 8 8;
-    }
+arcOf b = record { tail = getD b 0 0; head = getD b 1 0; spare = numberAt b 2 2; metres = numberAt b 4 4; risks = numberAt b 8 8 }
 
 -- the first n arcs of a table; arc number = position, from 0
 unfoldable pub firstArcs : ℕ → List ℕ → List Arc
-firstArcs zero bytes = []
-firstArcs (suc n) bytes = arcOf (take arcSize bytes) ∷ firstArcs n (drop arcSize bytes)
+firstArcs zero table = []
+firstArcs (suc n) table = arcOf (take 16 table) ∷ firstArcs n (drop 16 table)
 
 unfoldable pub arcsOf : List ℕ → List Arc
-arcsOf table = firstArcs (length table / arcSize) table
-
--- what stands for an arc past the table's end
-abbrev pub noArc : Arc
-noArc = record { tail = 0; head = 0; spare = 0; metres = 0; risks = 0 }
+arcsOf table = firstArcs (length table / 16) table
 
 -- the first fault of an arc, in order
 unfoldable pub faultOf : Arc → Fault
