@@ -2,6 +2,7 @@
 use Prim.Native.Nat.{ℕ, zero, suc}
 use mathlib.Core.Bool.{Bool, true, false, _&&_, _||_, not}
 use mathlib.Core.List.{List, [], _∷_, List·Memᴰ}
+use mathlib.Core.Path.{_≡_}
 
 infix 20 if_then_else_
 abbrev pub if_then_else_ {ℓ} : {A : Type ℓ} → Bool → A → A → A
@@ -13,10 +14,14 @@ unfoldable pub leastFrom : (ℕ → Bool) → ℕ → ℕ → ℕ
 leastFrom test zero j = j
 leastFrom test (suc n) j = elim (test j) [ true ↦ j | false ↦ leastFrom test n (suc j) ]
 
+-- R holds of each element of a list and every later one
+pub data Pairwise {A : Type 0} (R : A → A → Type 0) : List A → Type 0 where
+  none : Pairwise R []
+  one : {a : A} {l : List A} → ((b : A) → List·Memᴰ b l → R a b) → Pairwise R l → Pairwise R (a ∷ l)
+
 -- nothing stands twice in a list
-pub data Distinct {A : Type 0} : List A → Type 0 where
-  none : Distinct []
-  one : {a : A} {l : List A} → (List·Memᴰ a l → ⊥) → Distinct l → Distinct (a ∷ l)
+abbrev pub Distinct : {A : Type 0} → List A → Type 0
+Distinct {A} = Pairwise (λ (a b : A). a ≡ b → ⊥)
 
 -- those that pass the test, in their order
 unfoldable pub keep : {A : Type 0} → (A → Bool) → List A → List A

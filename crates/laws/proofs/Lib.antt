@@ -1,0 +1,5 @@
+pub mod ListLaws
+pub mod OrderLaws
+pub mod SortLaws
+pub mod FirstLaws
+pub mod SetLaws

@@ -1,0 +1,118 @@
+-- Sets of nodes or of risks as numbers, at any width: bits of unions, intersections and one more element; how many elements. Assumes nothing.
+use mathlib.Core.Path.{_≡_, refl, sym, ap, _∙_}
+use mathlib.Core.Bool.{Bool, true, false}
+use Prim.Native.Nat.{ℕ, zero, suc, _+_, _-_, _*_, _/_, _%_, _^_, _≤_, _<_, min, max}
+use native.Mathlib.Nat.{le-refl, pow-suc, pow-succ', div-one, div-div-eq-div-mul, div-lt-iff-lt-mul, not-suc-le-zero}
+use native.Mathlib.Omega.{arith}
+use lib.Arith.{lt-one}
+use lib.Bits.{bitAnd, bitOr, and-step, or-step, and-shr, or-shr}
+use lib.Count.{onesIn, ones, ones-step}
+use lib.Dec.{eqb, eqb·zero-suc, eqb·suc-zero, eqb·suc-suc, lit<}
+use borrow.Author.Tests.{eqb-true, eqb-false, ne-eqb}
+use Rattle.laws.specs.Sets.{bit, with}
+
+-- ---- the bits of a set, from the lowest on
+
+pub bit-zero : (s : ℕ) → bit s 0 ≡ s % 2
+unfolding bit
+bit-zero s = rw div-one
+
+pub bit-suc : (s r : ℕ) → bit s (suc r) ≡ bit (s / 2) r
+unfolding bit
+bit-suc s r = rw (pow-succ', ← div-div-eq-div-mul)
+
+pub bit-le-one : (s r : ℕ) → bit s r ≤ 1
+unfolding bit
+bit-le-one s r = omega arith
+
+pub bit-empty : (r : ℕ) → bit 0 r ≡ 0
+bit-empty zero = bit-zero 0
+bit-empty (suc r) = bit-suc 0 r ∙ bit-empty r
+
+pub bit-and : (a b r : ℕ) → bit (bitAnd a b) r ≡ min (bit a r) (bit b r)
+bit-and a b zero = simp bit-zero (rw and-step (omega arith))
+bit-and a b (suc r) = simp bit-suc (ap (λ (x : ℕ). bit x r) (and-shr a b 1) ∙ bit-and (a / 2) (b / 2) r)
+
+pub bit-or : (a b r : ℕ) → bit (bitOr a b) r ≡ max (bit a r) (bit b r)
+bit-or a b zero = simp bit-zero (rw or-step (omega arith))
+bit-or a b (suc r) = simp bit-suc (ap (λ (x : ℕ). bit x r) (or-shr a b 1) ∙ bit-or (a / 2) (b / 2) r)
+
+-- 1 where the test holds, else 0
+unfoldable pub digit : Bool → ℕ
+digit true = 1
+digit false = 0
+
+pub bit-pow : (h r : ℕ) → bit (2 ^ h) r ≡ digit (eqb r h)
+unfolding digit
+bit-pow zero zero = bit-zero 1
+bit-pow zero (suc r) = rw (bit-suc, eqb·suc-zero) (bit-empty r)
+bit-pow (suc h) zero = rw (bit-zero, pow-suc, eqb·zero-suc) (omega arith)
+bit-pow (suc h) (suc r) =
+    let half : 2 ^ suc h / 2 ≡ 2 ^ h = rw pow-suc (omega arith) in
+    rw (bit-suc, half, eqb·suc-suc) (bit-pow h r)
+
+-- the set and h
+pub bit-with : (s h r : ℕ) → bit (with s h) r ≡ max (bit s r) (digit (eqb r h))
+unfolding with
+bit-with s h r = rw (bit-or, bit-pow)
+
+pub bit-single : (h r : ℕ) → bit (with 0 h) r ≡ digit (eqb r h)
+bit-single h r = rw (bit-with, bit-empty) (omega arith)
+
+-- ---- how many elements a set has, at the width d
+
+-- a set within another has no more elements
+pub ones-mono : (d x y : ℕ) → ((r : ℕ) → bit x r ≤ bit y r) → onesIn d x ≤ onesIn d y
+unfolding onesIn
+ones-mono zero x y h = le-refl 0
+ones-mono (suc d) x y h =
+    omega (arith, simp bit-zero at (h 0), ones-mono d (x / 2) (y / 2) (λ r. simp bit-suc at (h (suc r))))
+
+-- a set within another, with as many elements, is the same at that width
+pub ones-same : (d x y : ℕ) → ((r : ℕ) → bit x r ≤ bit y r) → onesIn d y ≤ onesIn d x → (r : ℕ) → r < d → bit x r ≡ bit y r
+unfolding onesIn
+ones-same zero x y h l r b = absurd (not-suc-le-zero b)
+ones-same (suc d) x y h l zero b =
+    simp bit-zero (omega (arith, simp bit-zero at (h 0), ones-mono d (x / 2) (y / 2) (λ i. simp bit-suc at (h (suc i)))))
+ones-same (suc d) x y h l (suc r) b =
+    simp bit-suc (ones-same d (x / 2) (y / 2) (λ i. simp bit-suc at (h (suc i))) (omega (arith, simp bit-zero at (h 0))) r (omega arith))
+
+pub ones-le : (d x : ℕ) → onesIn d x ≤ d
+unfolding onesIn
+ones-le zero x = le-refl 0
+ones-le (suc d) x = omega (arith, ones-le d (x / 2))
+
+-- at a width that holds the set, the count by width is the language's count of ones
+pub ones-at : (d s : ℕ) → s < 2 ^ d → onesIn d s ≡ ones s
+unfolding onesIn ones
+ones-at zero s h = rw (lt-one h)
+ones-at (suc d) s h = ap (λ (x : ℕ). s % 2 + x) (ones-at d (s / 2) (div-lt-iff-lt-mul (lit< tt) .1 (rw pow-suc at h))) ∙ sym (ones-step s)
+
+-- ---- how many of 0 to n - 1 are not in a set
+
+unfoldable pub unmet : ℕ → ℕ → ℕ
+unmet zero s = 0
+unmet (suc n) s = (1 - bit s n) + unmet n s
+
+pub unmet-le : (n s : ℕ) → unmet n s ≤ n
+unfolding unmet
+unmet-le zero s = le-refl 0
+unmet-le (suc n) s = omega (arith, unmet-le n s)
+
+unmet-above : (n h s : ℕ) → n ≤ h → unmet n (with s h) ≡ unmet n s
+unfolding unmet digit
+unmet-above zero h s l = refl
+unmet-above (suc n) h s l = rw (bit-with, ne-eqb n h (λ e. omega arith), unmet-above n h s (omega arith)) (omega arith)
+
+-- one element more leaves one fewer out
+pub unmet-with : (n h s : ℕ) → h < n → bit s h ≡ 0 → unmet n s ≡ suc (unmet n (with s h))
+unfolding unmet digit
+unmet-with zero h s l e = absurd (not-suc-le-zero l)
+unmet-with (suc n) h s l e = go (eqb n h) refl (unmet-with n h s)
+  where
+    go : (b : Bool) → eqb n h ≡ b → (h < n → bit s h ≡ 0 → unmet n s ≡ suc (unmet n (with s h))) → unmet (suc n) s ≡ suc (unmet (suc n) (with s h))
+    go true q ih =
+        let same : n ≡ h = eqb-true n h q in
+        let out : bit s n ≡ 0 = ap (bit s) same ∙ e in
+        rw (bit-with, q, out, unmet-above n h s (omega arith)) (omega arith)
+    go false q ih = rw (bit-with, q, ih (omega (arith, eqb-false n h q)) e) (omega arith)
