@@ -59,6 +59,22 @@ bit-with s h r = rw (bit-or, bit-pow)
 pub bit-single : (h r : ℕ) → bit (with 0 h) r ≡ digit (eqb r h)
 bit-single h r = rw (bit-with, bit-empty) (omega arith)
 
+-- a set with no element is empty
+pub bits-empty : (d s : ℕ) → s < 2 ^ d → ((r : ℕ) → bit s r ≡ 0) → s ≡ 0
+bits-empty zero s h f = lt-one h
+bits-empty (suc d) s h f =
+    omega (arith, simp bit-zero at (f 0), bits-empty d (s / 2) (div-lt-iff-lt-mul (lit< tt) .1 (rw pow-suc at h)) (λ r. simp bit-suc at (f (suc r))))
+
+below-pow : (s : ℕ) → s < 2 ^ s
+below-pow zero = omega arith
+below-pow (suc s) = rw pow-suc (omega (arith, below-pow s))
+
+-- what lies within a set that has nothing in common with another has nothing in common with it either
+pub and-within : (x y z : ℕ) → ((r : ℕ) → bit x r ≤ bit y r) → bitAnd y z ≡ 0 → bitAnd x z ≡ 0
+and-within x y z f e =
+    bits-empty (bitAnd x z) (bitAnd x z) (below-pow (bitAnd x z))
+    (λ r. rw bit-and (omega (arith, f r, rw bit-and at (ap (λ (s : ℕ). bit s r) e), bit-empty r)))
+
 -- ---- how many elements a set has, at the width d
 
 -- a set within another has no more elements

@@ -1,7 +1,8 @@
 -- 01, Routes and their ranking, When a reply is settled: pairs and their judgement, best(j), the floor, settled, J. Ranks are counted from 1. Assumes nothing.
-use Prim.Native.Nat.{ℕ, _+_, _*_, _-_, _^_, min}
+use Prim.Native.Nat.{ℕ, _+_, _*_, _-_, _^_, _≤_, _<_, min}
 use mathlib.Core.Bool.{Bool, _&&_, _||_}
 use mathlib.Core.List.{List, [], _∷_, _++_, map}
+use mathlib.Core.Path.{_≡_}
 use lib.Bits.{bitAnd}
 use lib.Count.{onesIn}
 use lib.Dec.{eqb, leb, ltb}
@@ -32,6 +33,11 @@ judgeKey p = (sharedCount p ∷ total p ∷ []) ∷ rankKey (p .main) ∷ rankKe
 
 unfoldable pub judged : Pair → Pair → Bool
 judged p q = lexBy (lexBy ltb) (judgeKey p) (judgeKey q)
+
+-- one shared count and total against another: fewer shared, or as many and no longer
+pub data NoWorse (shared metres shared′ metres′ : ℕ) : Type 0 where
+  fewer : shared < shared′ → NoWorse shared metres shared′ metres′
+  as-many : shared ≡ shared′ → metres ≤ metres′ → NoWorse shared metres shared′ metres′
 
 -- each main with each standby
 unfoldable pub pairsOf : List Route → List Route → List Pair

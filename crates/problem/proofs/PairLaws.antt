@@ -1,0 +1,165 @@
+-- Pairs: who is among them, the judgement, the best pair of a step, the floor. Assumes nothing.
+use mathlib.Core.Path.{_≡_, refl, sym, ap, ap₂, _∙_, subst}
+use mathlib.Core.Logic.{_⊎_, inl, inr}
+use mathlib.Core.Bool.{Bool, true, false, true≢false, false≢true}
+use mathlib.Core.List.{List, [], _∷_, _++_, map, List·Memᴰ, List·Memᴰ·head, List·Memᴰ·tail, List·Memᴰ·not-nil, List·Memᴰ·cases-cons, List·Memᴰ·append-cases, Memᴰ·append-left, Memᴰ·append-right, Memᴰ·cast, Memᴰ·map, Memᴰ·of-map, head-eq-of-cons-eq, tail-eq-of-cons-eq}
+use Prim.Native.Nat.{ℕ, zero, suc, _+_, _-_, _/_, _%_, _^_, _≤_, _<_, min}
+use native.Mathlib.Nat.{add-comm, pow-suc}
+use native.Mathlib.Omega.{arith}
+use lib.Bits.{bitAnd, and-comm}
+use lib.Count.{onesIn}
+use lib.Dec.{ltb}
+use lib.ListN.{length, getD, take}
+use lib.Pow.{pow-pos}
+use borrow.Author.Tests.{ltb-true, ltb-false, lt-ltb}
+use Rattle.laws.specs.Choosing.{lexBy, firstBy}
+use Rattle.laws.specs.Sets.{bit}
+use Rattle.laws.proofs.ListLaws.{getD-mem, getD-take-mem, take-place}
+use Rattle.laws.proofs.OrderLaws.{Total, Weak, total-weak, keyed-weak, ltb-total, lex-total, lex-true, lex-false, lex-lt, lex-eq}
+use Rattle.laws.proofs.FirstLaws.{first-mem, first-least}
+use Rattle.laws.proofs.SetLaws.{bit-zero, bit-suc, bit-and, ones-mono}
+use Rattle.problem.specs.Routes.{Route, rankKey, precedes}
+use Rattle.problem.specs.Pairs.{Pair, sharedRisks, sharedCount, total, judgeKey, judged, NoWorse, pairsOf, noRoute, best, commonRisks, floor}
+use Rattle.problem.proofs.RankingLaws.{key-total}
+
+abbrev pub pair : Route → Route → Pair
+pair m s = record { main = m; standby = s }
+
+-- ---- who is among the pairs
+
+pub pairs-in : {mains standbys : List Route} {m s : Route} → List·Memᴰ m mains → List·Memᴰ s standbys → List·Memᴰ (pair m s) (pairsOf mains standbys)
+unfolding pairsOf
+pairs-in {standbys = standbys} {m} {s} (List·Memᴰ·head e) q = Memᴰ·append-left _ (Memᴰ·cast (ap (λ (r : Route). pair r s) e) (Memᴰ·map (λ (r : Route). pair _ r) q))
+pairs-in {standbys = standbys} (List·Memᴰ·tail {x = x} p) q = Memᴰ·append-right (map (λ (r : Route). pair x r) standbys) (pairs-in p q)
+
+pub pairs-out : (mains standbys : List Route) {p : Pair} → List·Memᴰ p (pairsOf mains standbys) → List·Memᴰ (p .main) mains × List·Memᴰ (p .standby) standbys
+unfolding pairsOf
+pairs-out [] standbys x = absurd (List·Memᴰ·not-nil x)
+pairs-out (m ∷ mains) standbys {p} x = go (List·Memᴰ·append-cases (map (λ (r : Route). pair m r) standbys) x) (λ y. pairs-out mains standbys y)
+  where
+    go : List·Memᴰ p (map (λ (r : Route). pair m r) standbys) ⊎ List·Memᴰ p (pairsOf mains standbys)
+        → (List·Memᴰ p (pairsOf mains standbys) → List·Memᴰ (p .main) mains × List·Memᴰ (p .standby) standbys) → List·Memᴰ (p .main) (m ∷ mains) × List·Memᴰ (p .standby) standbys
+    go (inl y) f =
+        let o = Memᴰ·of-map (λ (r : Route). pair m r) standbys y in
+        (List·Memᴰ·head (ap (λ (q : Pair). q .main) (sym (o .2))), Memᴰ·cast (ap (λ (q : Pair). q .standby) (sym (o .2))) (o .1))
+    go (inr y) f = let o = f y in (List·Memᴰ·tail (o .0), o .1)
+
+-- ---- the judgement
+
+pub judge-total : Total (lexBy (lexBy ltb))
+judge-total = lex-total (lexBy ltb) key-total
+
+pub judged-weak : Weak judged
+unfolding judged
+judged-weak = keyed-weak judgeKey (total-weak judge-total)
+
+-- pairs that neither is judged before the other have the same two routes, by their arcs
+pub judged-tri : (p q : Pair) → judged p q ≡ false → judged q p ≡ false → (p .main .arcs ≡ q .main .arcs) × (p .standby .arcs ≡ q .standby .arcs)
+unfolding judged judgeKey rankKey
+judged-tri p q u v =
+    let e = tail-eq-of-cons-eq (judge-total .tri (judgeKey p) (judgeKey q) u v) in
+    (tail-eq-of-cons-eq (head-eq-of-cons-eq e), tail-eq-of-cons-eq (head-eq-of-cons-eq (tail-eq-of-cons-eq e)))
+
+-- what the first place of the judgement says
+pub judged-no-worse : (p q : Pair) → judged q p ≡ false → NoWorse (sharedCount p) (total p) (sharedCount q) (total q)
+unfolding judged judgeKey
+judged-no-worse p q h = go (lex-false (lexBy ltb) key-total _ _ _ _ h)
+  where
+    first : (lexBy ltb (sharedCount p ∷ total p ∷ []) (sharedCount q ∷ total q ∷ []) ≡ true) → NoWorse (sharedCount p) (total p) (sharedCount q) (total q)
+    first e = by-shared (lex-true ltb ltb-total (sharedCount p) (total p ∷ []) (sharedCount q) (total q ∷ []) e)
+      where
+        by-total : sharedCount p ≡ sharedCount q → (ltb (total p) (total q) ≡ true) ⊎ ((total p ≡ total q) × (lexBy ltb [] [] ≡ true)) → NoWorse (sharedCount p) (total p) (sharedCount q) (total q)
+        by-total f (inl l) = NoWorse.as-many f (omega (arith, ltb-true (total p) (total q) l))
+        by-total f (inr l) = NoWorse.as-many f (omega arith)
+
+        by-shared : (ltb (sharedCount p) (sharedCount q) ≡ true) ⊎ ((sharedCount p ≡ sharedCount q) × (lexBy ltb (total p ∷ []) (total q ∷ []) ≡ true)) → NoWorse (sharedCount p) (total p) (sharedCount q) (total q)
+        by-shared (inl l) = NoWorse.fewer (ltb-true (sharedCount p) (sharedCount q) l)
+        by-shared (inr l) = by-total (l .0) (lex-true ltb ltb-total (total p) [] (total q) [] (l .1))
+
+    go : (lexBy ltb (sharedCount p ∷ total p ∷ []) (sharedCount q ∷ total q ∷ []) ≡ true)
+        ⊎ (((sharedCount q ∷ total q ∷ []) ≡ (sharedCount p ∷ total p ∷ [])) × (lexBy (lexBy ltb) (rankKey (q .main) ∷ rankKey (q .standby) ∷ []) (rankKey (p .main) ∷ rankKey (p .standby) ∷ []) ≡ false))
+        → NoWorse (sharedCount p) (total p) (sharedCount q) (total q)
+    go (inl e) = first e
+    go (inr e) =
+        let n : sharedCount q ≡ sharedCount p = head-eq-of-cons-eq (e .0) in
+        let m : total q ≡ total p = head-eq-of-cons-eq (tail-eq-of-cons-eq (e .0)) in
+        NoWorse.as-many (sym n) (omega arith)
+
+-- ---- the same two routes the other way round
+
+pub swap-shared : (m s : Route) → sharedCount (pair m s) ≡ sharedCount (pair s m)
+unfolding sharedCount sharedRisks
+swap-shared m s = ap (onesIn 64) (and-comm (m .risks) (s .risks))
+
+pub swap-total : (m s : Route) → total (pair m s) ≡ total (pair s m)
+unfolding total
+swap-total m s = add-comm (m .metres) (s .metres)
+
+-- with the earlier of the two as main the pair is judged first
+pub swap-judged : (m s : Route) → precedes s m ≡ true → judged (pair s m) (pair m s) ≡ true
+unfolding judged judgeKey precedes
+swap-judged m s e =
+    lex-eq (lexBy ltb) key-total (sharedCount (pair s m) ∷ total (pair s m) ∷ []) _ (sharedCount (pair m s) ∷ total (pair m s) ∷ []) _
+    (ap₂ (λ (a b : ℕ). a ∷ b ∷ []) (swap-shared s m) (swap-total s m))
+    ∙ lex-lt (lexBy ltb) key-total (rankKey s) (rankKey m ∷ []) (rankKey m) (rankKey s ∷ []) e
+
+-- ---- the best pair of a step
+
+module _ (routes : List Route) where
+  -- a step of the ranking
+  pub record Step (j : ℕ) : Type 0 where
+    pub from-one : 0 < j
+    pub to-N : j ≤ length routes
+
+  -- no pair with its main among the first j precedes best(j)
+  pub best-least : (j : ℕ) {m s : Route} → List·Memᴰ m (take j routes) → List·Memᴰ s routes → judged (pair m s) (best routes j) ≡ false
+  unfolding best
+  best-least j p q = first-least judged judged-weak (pair noRoute noRoute) (pairs-in p q)
+
+  -- best(j) is one of them
+  pub best-mem : {j : ℕ} → Step j → List·Memᴰ (best routes j .main) (take j routes) × List·Memᴰ (best routes j .standby) routes
+  unfolding best
+  best-mem {j} s =
+      let m = getD-take-mem noRoute j routes 0 (s .from-one) (omega arith) in
+      pairs-out (take j routes) routes (first-mem judged (pair noRoute noRoute) (pairs-in m (getD-mem noRoute routes 0 (omega arith))))
+
+  take-mem : (j : ℕ) {r : Route} → List·Memᴰ r (take j routes) → List·Memᴰ r routes
+  take-mem j m = let e = take-place noRoute j routes m in Memᴰ·cast (e .is) (getD-mem noRoute routes (e .at) (e .inside))
+
+  pub best-main : {j : ℕ} → Step j → List·Memᴰ (best routes j .main) routes
+  best-main {j} s = take-mem j (best-mem s .0)
+
+  -- with more mains the best pair is no worse
+  pub best-mono : {i j : ℕ} → Step i → i ≤ j → NoWorse (sharedCount (best routes j)) (total (best routes j)) (sharedCount (best routes i)) (total (best routes i))
+  best-mono {i} {j} s l =
+      let m = best-mem s in
+      let e = take-place noRoute i routes (m .0) in
+      judged-no-worse (best routes j) (best routes i)
+      (best-least j (Memᴰ·cast (e .is) (getD-take-mem noRoute j routes (e .at) (omega (arith, e .early)) (e .inside))) (m .1))
+
+-- ---- the floor
+
+pub common-le : (routes : List Route) {r : Route} (b : ℕ) → List·Memᴰ r routes → bit (commonRisks routes) b ≤ bit (r .risks) b
+unfolding commonRisks
+common-le [] b m = absurd (List·Memᴰ·not-nil m)
+common-le (s ∷ routes) b (List·Memᴰ·head e) = rw (bit-and, e) (omega arith)
+common-le (s ∷ routes) b (List·Memᴰ·tail m) = rw bit-and (omega (arith, common-le routes b m))
+
+-- all of the lowest d bits
+bit-full : (d r : ℕ) → r < d → bit (2 ^ d - 1) r ≡ 1
+bit-full zero r h = absurd (omega arith)
+bit-full (suc d) zero h = rw (bit-zero, pow-suc) (omega (arith, pow-pos d))
+bit-full (suc d) (suc r) h =
+    let half : (2 ^ suc d - 1) / 2 ≡ 2 ^ d - 1 = rw pow-suc (omega arith) in
+    rw (bit-suc, half) (bit-full d r (omega arith))
+
+-- a risk that is on each route is on every route
+pub common-all : (routes : List Route) (b : ℕ) → b < 64 → ((r : Route) → List·Memᴰ r routes → bit (r .risks) b ≡ 1) → bit (commonRisks routes) b ≡ 1
+unfolding commonRisks
+common-all [] b h f = bit-full 64 b h
+common-all (r ∷ routes) b h f = rw bit-and (omega (arith, f r (List·Memᴰ·head refl), common-all routes b h (λ s m. f s (List·Memᴰ·tail m))))
+
+-- the floor is at most the shared count of any pair
+pub floor-le : (routes : List Route) {m s : Route} → List·Memᴰ m routes → List·Memᴰ s routes → floor routes ≤ sharedCount (pair m s)
+unfolding floor sharedCount sharedRisks
+floor-le routes {m} {s} p q = ones-mono 64 (commonRisks routes) (bitAnd (m .risks) (s .risks)) (λ b. rw bit-and (omega (arith, common-le routes b p, common-le routes b q)))
