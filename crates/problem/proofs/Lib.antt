@@ -1,5 +1,9 @@
+pub mod TableLaws
 pub mod RouteLaws
 pub mod RankingLaws
 pub mod PairLaws
 pub mod SettleLaws
 pub mod WayLaws
+pub mod ReplyLaws
+pub mod CallLaws
+pub mod Promises

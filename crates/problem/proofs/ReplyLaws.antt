@@ -1,0 +1,213 @@
+-- Calls: the checks as facts, the three ways a call can end, and the fields of a reply read back from its bytes. Assumes nothing.
+use mathlib.Core.Path.{_≡_, refl, sym, ap, _∙_}
+use mathlib.Core.Logic.{_⊎_, inl, inr}
+use mathlib.Core.Bool.{Bool, true, false, _||_, not, false≢true, true≢false}
+use mathlib.Core.List.{List, [], _∷_, _++_, List·Memᴰ}
+use Prim.Native.Nat.{ℕ, zero, suc, _+_, _*_, _-_, _/_, _%_, _^_, _≤_, _<_, min}
+use native.Mathlib.Omega.{arith}
+use lib.Dec.{eqb, ltb, leb}
+use lib.ListN.{length, getD, drop, replicate, length-append, length-replicate}
+use borrow.Author.Tests.{ltb-false, le-ltb, eqb-true, eqb-false, eq-eqb, ne-eqb, not-false, leb-true, leb-false, le-leb, lt-leb}
+use Rattle.laws.specs.Choosing.{if_then_else_}
+use Rattle.problem.specs.declared.Arc.{Arc}
+use Rattle.problem.specs.Table.{lastNode, mostArcs, mostReach, mostAllowance, mostTableBytes, replySize, numberAt, bytesOf, arcsOf, allSound}
+use Rattle.problem.specs.Routes.{Route, routeOf, ranking}
+use Rattle.problem.specs.Pairs.{Pair, sharedCount, best, floor, leastSettled, ranked, verdict}
+use Rattle.problem.specs.Reply.{Request, Answer, refuse, placesOf, replyOf, refusal, planned, answerUnless, answer}
+use Rattle.problem.proofs.TableLaws.{SoundArc, sound-at}
+use Rattle.problem.proofs.RankingLaws.{LowHeads, Listed, ranking-out}
+use Rattle.problem.proofs.PairLaws.{Step, best-mem, best-main}
+use Rattle.problem.proofs.SettleLaws.{least-settled-step}
+
+-- ---- the checks
+
+-- the checks 2 to 9, passed
+pub record Passed (table : List ℕ) (q : Request) (size : ℕ) : Type 0 where
+  pub few-bytes : length table ≤ mostTableBytes
+  pub whole-arcs : length table % 16 ≡ 0
+  pub room : replySize ≤ size
+  pub source-node : q .source ≤ lastNode
+  pub terminal-node : q .terminal ≤ lastNode
+  pub ends-differ : q .source ≡ q .terminal → ⊥
+  pub reach-range : q .reach ≤ mostReach
+  pub some-allowance : 0 < q .allowance
+  pub allowance-range : q .allowance ≤ mostAllowance
+  pub sound : allSound (arcsOf table) ≡ true
+
+not-first : (b : Bool) (n r : ℕ) → (if b then suc n else r) ≡ 0 → (b ≡ false) × (r ≡ 0)
+not-first true n r e = absurd (omega arith)
+not-first false n r e = (refl, e)
+
+neither : (a b : Bool) → (a || b) ≡ false → (a ≡ false) × (b ≡ false)
+neither true b e = absurd (true≢false e)
+neither false b e = (refl, e)
+
+pub refusal-passed : (table : List ℕ) (q : Request) (size : ℕ) → refusal table q size ≡ 0 → Passed table q size
+unfolding refusal
+refusal-passed table q size e =
+    let a = not-first (ltb mostTableBytes (length table)) 1 _ e in
+    let b = not-first (not (eqb (length table % 16) 0)) 2 _ (a .1) in
+    let c = not-first (ltb size replySize) 3 _ (b .1) in
+    let d = not-first (ltb lastNode (q .source) || ltb lastNode (q .terminal)) 4 _ (c .1) in
+    let f = not-first (eqb (q .source) (q .terminal)) 5 _ (d .1) in
+    let g = not-first (ltb mostReach (q .reach)) 6 _ (f .1) in
+    let h = not-first (eqb (q .allowance) 0 || ltb mostAllowance (q .allowance)) 7 _ (g .1) in
+    let i = not-first (not (allSound (arcsOf table))) 8 _ (h .1) in
+    let nodes = neither (ltb lastNode (q .source)) (ltb lastNode (q .terminal)) (d .0) in
+    let allowed = neither (eqb (q .allowance) 0) (ltb mostAllowance (q .allowance)) (h .0) in
+    record {
+      few-bytes = ltb-false mostTableBytes (length table) (a .0);
+      whole-arcs = eqb-true (length table % 16) 0 (not-false _ (b .0));
+      room = ltb-false size replySize (c .0);
+      source-node = ltb-false lastNode (q .source) (nodes .0);
+      terminal-node = ltb-false lastNode (q .terminal) (nodes .1);
+      ends-differ = eqb-false (q .source) (q .terminal) (f .0);
+      reach-range = ltb-false mostReach (q .reach) (g .0);
+      some-allowance = omega (arith, eqb-false (q .allowance) 0 (allowed .0));
+      allowance-range = ltb-false mostAllowance (q .allowance) (allowed .1);
+      sound = not-false _ (i .0);
+    }
+
+pub passed-refusal : {table : List ℕ} {q : Request} {size : ℕ} → Passed table q size → refusal table q size ≡ 0
+unfolding refusal
+passed-refusal {table} {q} {size} p =
+    rw (
+      le-ltb mostTableBytes (length table) (p .few-bytes),
+      eq-eqb (length table % 16) 0 (p .whole-arcs),
+      le-ltb size replySize (p .room),
+      le-ltb lastNode (q .source) (p .source-node),
+      le-ltb lastNode (q .terminal) (p .terminal-node),
+      ne-eqb (q .source) (q .terminal) (p .ends-differ),
+      le-ltb mostReach (q .reach) (p .reach-range),
+      ne-eqb (q .allowance) 0 (λ e. omega (arith, p .some-allowance)),
+      le-ltb mostAllowance (q .allowance) (p .allowance-range),
+      p .sound,
+    )
+
+-- a refusal by these checks is one of 2 to 9
+refusal-range : (a b c d e f g h : Bool) (n : ℕ)
+    → (if a then 2 else (if b then 3 else (if c then 4 else (if d then 5 else (if e then 6 else (if f then 7 else (if g then 8 else (if h then 9 else 0)))))))) ≡ suc n → (2 ≤ suc n) × (suc n ≤ 9)
+refusal-range true b c d e f g h n p = omega arith
+refusal-range false true c d e f g h n p = omega arith
+refusal-range false false true d e f g h n p = omega arith
+refusal-range false false false true e f g h n p = omega arith
+refusal-range false false false false true f g h n p = omega arith
+refusal-range false false false false false true g h n p = omega arith
+refusal-range false false false false false false true h n p = omega arith
+refusal-range false false false false false false false true n p = omega arith
+refusal-range false false false false false false false false n p = absurd (omega arith)
+
+refusal-number : (table : List ℕ) (q : Request) (size n : ℕ) → refusal table q size ≡ suc n → (2 ≤ suc n) × (suc n ≤ 9)
+unfolding refusal
+refusal-number table q size n e =
+    refusal-range (ltb mostTableBytes (length table)) (not (eqb (length table % 16) 0)) (ltb size replySize) (ltb lastNode (q .source) || ltb lastNode (q .terminal))
+    (eqb (q .source) (q .terminal)) (ltb mostReach (q .reach)) (eqb (q .allowance) 0 || ltb mostAllowance (q .allowance)) (not (allSound (arcsOf table))) n e
+
+-- ---- how a call ends
+
+-- the routes of a call, in their ranking
+abbrev pub routesOf : List ℕ → Request → List Route
+routesOf table q = ranking (arcsOf table) (q .source) (q .terminal) (q .reach)
+
+-- the pair of the answer
+abbrev pub chosen : List ℕ → Request → Pair
+chosen table q = best (routesOf table q) (ranked (routesOf table q) (q .allowance))
+
+-- the answer where there is a route
+abbrev pub answered : List ℕ → Request → Answer
+answered table q =
+    record {
+      number = verdict (routesOf table q) (q .allowance);
+      reply = replyOf (verdict (routesOf table q) (q .allowance)) (floor (routesOf table q)) (ranked (routesOf table q) (q .allowance)) (chosen table q);
+    }
+
+pub data Outcome (table : List ℕ) (q : Request) (size : ℕ) : Type 0 where
+  -- by one of the checks 2 to 9
+  by-check : (n : ℕ) → refusal table q size ≡ n → 2 ≤ n → n ≤ 9 → answer table q size ≡ refuse n → Outcome table q size
+  -- with 10
+  no-route : Passed table q size → routesOf table q ≡ [] → answer table q size ≡ refuse 10 → Outcome table q size
+  -- with 0 or 1
+  with-pair : Passed table q size → 0 < length (routesOf table q) → answer table q size ≡ answered table q → Outcome table q size
+
+pub sound-heads : (arcs : List Arc) → allSound arcs ≡ true → LowHeads arcs
+sound-heads arcs h k l = omega (arith, sound-at arcs h k l .head-node)
+
+pub ranked-step : (routes : List Route) (allowance : ℕ) → 0 < length routes → 0 < allowance → Step routes (ranked routes allowance)
+unfolding ranked
+ranked-step routes allowance h a = let s = least-settled-step routes h in record { from-one = omega (arith, s .from-one); to-N = omega (arith, s .to-N) }
+
+-- every route of a call is within 62,000,000, so number 11 is never given
+pub route-range : {table : List ℕ} {q : Request} {size : ℕ} → Passed table q size → {r : Route} → List·Memᴰ r (routesOf table q) → r .metres ≤ mostReach
+unfolding routeOf
+route-range {table} {q} p m =
+    let o = ranking-out (arcsOf table) (q .source) (q .terminal) (q .reach) m in
+    omega (arith, o .route .within-reach, p .reach-range, ap (λ (r : Route). r .metres) (o .is))
+
+planned-none : (routes : List Route) (allowance : ℕ) → length routes ≡ 0 → (routes ≡ []) × (planned routes allowance ≡ refuse 10)
+unfolding planned
+planned-none [] allowance e = (refl, refl)
+planned-none (r ∷ routes) allowance e = absurd (omega arith)
+
+planned-some : (routes : List Route) (allowance : ℕ) → 0 < length routes → best routes (ranked routes allowance) .main .metres ≤ mostReach
+    → best routes (ranked routes allowance) .standby .metres ≤ mostReach
+    → planned routes allowance
+    ≡ record { number = verdict routes allowance; reply = replyOf (verdict routes allowance) (floor routes) (ranked routes allowance) (best routes (ranked routes allowance)) }
+unfolding planned
+planned-some [] allowance h m s = absurd (omega arith)
+planned-some (r ∷ routes) allowance h m s = rw (le-ltb mostReach _ m, le-ltb mostReach _ s)
+
+pub outcome : (table : List ℕ) (q : Request) (size : ℕ) → Outcome table q size
+unfolding answer answerUnless
+outcome table q size = by-number (refusal table q size) refl
+  where
+    by-length : Passed table q size → (n : ℕ) → length (routesOf table q) ≡ n → planned (routesOf table q) (q .allowance) ≡ answer table q size → Outcome table q size
+    by-length p zero e f = let o = planned-none (routesOf table q) (q .allowance) e in no-route p (o .0) (sym f ∙ o .1)
+    by-length p (suc n) e f =
+        let some : 0 < length (routesOf table q) = omega arith in
+        let s = ranked-step (routesOf table q) (q .allowance) some (p .some-allowance) in
+        with-pair p some
+        (sym f ∙ planned-some (routesOf table q) (q .allowance) some (route-range p (best-main (routesOf table q) s)) (route-range p (best-mem (routesOf table q) s .1)))
+
+    by-number : (n : ℕ) → refusal table q size ≡ n → Outcome table q size
+    by-number zero e = by-length (refusal-passed table q size e) (length (routesOf table q)) refl (ap (λ (x : ℕ). answerUnless x table q) (sym e))
+    by-number (suc n) e = let r = refusal-number table q size n e in by-check (suc n) e (r .0) (r .1) (ap (λ (x : ℕ). answerUnless x table q) e)
+
+-- ---- the fields of a reply, read back
+
+module _ (v low r : ℕ) (p : Pair) where
+  pub reply-verdict : getD (replyOf v low r p) 0 0 ≡ v
+  unfolding replyOf
+  reply-verdict = refl
+
+  pub reply-shared : getD (replyOf v low r p) 1 0 ≡ sharedCount p
+  unfolding replyOf
+  reply-shared = refl
+
+  pub reply-floor : getD (replyOf v low r p) 2 0 ≡ low
+  unfolding replyOf
+  reply-floor = refl
+
+  pub reply-ranked : r < 2 ^ 32 → numberAt (replyOf v low r p) 8 4 ≡ r
+  unfolding replyOf numberAt bytesOf
+  reply-ranked h = omega arith
+
+  pub reply-main-metres : p .main .metres < 2 ^ 32 → numberAt (replyOf v low r p) 12 4 ≡ p .main .metres
+  unfolding replyOf numberAt bytesOf
+  reply-main-metres h = omega arith
+
+  pub reply-standby-metres : p .standby .metres < 2 ^ 32 → numberAt (replyOf v low r p) 16 4 ≡ p .standby .metres
+  unfolding replyOf numberAt bytesOf
+  reply-standby-metres h = omega arith
+
+length-bytes : (n x : ℕ) → length (bytesOf n x) ≡ n
+unfolding bytesOf
+length-bytes zero x = refl
+length-bytes (suc n) x = ap suc (length-bytes n (x / 256))
+
+length-places : (r : Route) → length (r .arcs) ≤ mostArcs → length (placesOf r) ≡ 32
+unfolding placesOf
+length-places r h = simp (length-append, length-replicate) (omega arith)
+
+pub reply-length : (v low r : ℕ) (p : Pair) → length (p .main .arcs) ≤ mostArcs → length (p .standby .arcs) ≤ mostArcs → length (replyOf v low r p) ≡ replySize
+unfolding replyOf
+reply-length v low r p h b = simp (length-append, length-bytes, length-places (p .main) h, length-places (p .standby) b)
