@@ -1,7 +1,7 @@
 -- Pairs: who is among them, the judgement, the best pair of a step, the floor. Assumes nothing.
 use mathlib.Core.Path.{_≡_, refl, sym, ap, ap₂, _∙_, subst}
 use mathlib.Core.Logic.{_⊎_, inl, inr}
-use mathlib.Core.Bool.{Bool, true, false, true≢false, false≢true}
+use mathlib.Core.Bool.{Bool, true, false, _&&_, _||_, not}
 use mathlib.Core.List.{List, [], _∷_, _++_, map, List·Memᴰ, List·Memᴰ·head, List·Memᴰ·tail, List·Memᴰ·not-nil, List·Memᴰ·cases-cons, List·Memᴰ·append-cases, Memᴰ·append-left, Memᴰ·append-right, Memᴰ·cast, Memᴰ·map, Memᴰ·of-map, head-eq-of-cons-eq, tail-eq-of-cons-eq}
 use Prim.Native.Nat.{ℕ, zero, suc, _+_, _-_, _/_, _%_, _^_, _≤_, _<_, min}
 use native.Mathlib.Nat.{add-comm, pow-suc}
@@ -17,10 +17,11 @@ use Rattle.laws.specs.Sets.{bit}
 use Rattle.laws.proofs.ListLaws.{getD-mem, getD-take-mem, take-place}
 use Rattle.laws.proofs.OrderLaws.{Total, Weak, total-weak, keyed-weak, ltb-total, lex-total, lex-true, lex-false, lex-lt, lex-eq}
 use Rattle.laws.proofs.FirstLaws.{first-mem, first-least}
+use Rattle.laws.proofs.SortLaws.{Strict, place-order}
 use Rattle.laws.proofs.SetLaws.{bit-zero, bit-suc, bit-and, ones-mono}
 use Rattle.problem.specs.Routes.{Route, rankKey, precedes}
 use Rattle.problem.specs.Pairs.{Pair, sharedRisks, sharedCount, total, judgeKey, judged, NoWorse, pairsOf, noRoute, best, commonRisks, floor}
-use Rattle.problem.proofs.RankingLaws.{key-total}
+use Rattle.problem.proofs.RankingLaws.{key-total, precedes-weak}
 
 abbrev pub pair : Route → Route → Pair
 pair m s = record { main = m; standby = s }
@@ -59,6 +60,32 @@ unfolding judged judgeKey rankKey
 judged-tri p q u v =
     let e = tail-eq-of-cons-eq (judge-total .tri (judgeKey p) (judgeKey q) u v) in
     (tail-eq-of-cons-eq (head-eq-of-cons-eq e), tail-eq-of-cons-eq (head-eq-of-cons-eq (tail-eq-of-cons-eq e)))
+
+-- by rank: with ranks for routes the judgement is that of shared count, total, rank of the main, rank of the standby
+flat : (a a′ b b′ r : Bool)
+    → ((a || (not a′ && (b || (not b′ && false)))) || (not (a′ || (not a && (b′ || (not b && false)))) && r)) ≡ (a || (not a′ && (b || (not b′ && r))))
+flat true a′ b b′ r = refl
+flat false true b b′ r = refl
+flat false false true b′ r = refl
+flat false false false true r = refl
+flat false false false false r = refl
+
+lex-flat : (n t n′ t′ : ℕ) (x y x′ y′ : List ℕ) (i k i′ k′ : ℕ) → lexBy ltb x x′ ≡ ltb i i′ → lexBy ltb x′ x ≡ ltb i′ i → lexBy ltb y y′ ≡ ltb k k′ → lexBy ltb y′ y ≡ ltb k′ k
+    → lexBy (lexBy ltb) ((n ∷ t ∷ []) ∷ x ∷ y ∷ []) ((n′ ∷ t′ ∷ []) ∷ x′ ∷ y′ ∷ []) ≡ lexBy ltb (n ∷ t ∷ i ∷ k ∷ []) (n′ ∷ t′ ∷ i′ ∷ k′ ∷ [])
+unfolding lexBy
+lex-flat n t n′ t′ x y x′ y′ i k i′ k′ a b c d =
+    rw (a, b, c, d) (flat (ltb n n′) (ltb n′ n) (ltb t t′) (ltb t′ t) (ltb i i′ || (not (ltb i′ i) && (ltb k k′ || (not (ltb k′ k) && false)))))
+
+-- the key of a pair of ranks
+abbrev pub rankedKey : List Route → ℕ → ℕ → List ℕ
+rankedKey routes m s = let p : Pair = pair (getD routes m noRoute) (getD routes s noRoute) in sharedCount p ∷ total p ∷ m ∷ s ∷ []
+
+pub judged-by-rank : (routes : List Route) → Strict precedes routes → (m s m′ s′ : ℕ) → m < length routes → s < length routes → m′ < length routes → s′ < length routes
+    → judged (pair (getD routes m noRoute) (getD routes s noRoute)) (pair (getD routes m′ noRoute) (getD routes s′ noRoute)) ≡ lexBy ltb (rankedKey routes m s) (rankedKey routes m′ s′)
+unfolding judged judgeKey precedes
+judged-by-rank routes strict m s m′ s′ a b c d =
+    let place : (i k : ℕ) → i < length routes → k < length routes → lexBy ltb (rankKey (getD routes i noRoute)) (rankKey (getD routes k noRoute)) ≡ ltb i k = place-order precedes precedes-weak noRoute routes strict in
+    lex-flat _ _ _ _ _ _ _ _ m s m′ s′ (place m m′ a c) (place m′ m c a) (place s s′ b d) (place s′ s d b)
 
 -- what the first place of the judgement says
 pub judged-no-worse : (p q : Pair) → judged q p ≡ false → NoWorse (sharedCount p) (total p) (sharedCount q) (total q)

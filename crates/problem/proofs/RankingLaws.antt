@@ -72,6 +72,14 @@ module _ (arcs : List Arc) (source terminal reach : ℕ) where
       let m = grow-in arcs terminal mostArcs (omega (arith, grown-short arcs terminal low g, unmet-source source s)) g in
       sort-mem precedes _ _ .0 (keep-in (within reach) (routesFrom arcs terminal source) (Memᴰ·map (routeOf arcs) m) (le-leb (metresOf arcs ks) reach (r .within-reach)))
 
+  -- the listed routes are exactly the routes of the definition
+  pub ranking-exact : LowHeads arcs → source < 32 → (ks : List ℕ) → List·Memᴰ (routeOf arcs ks) (ranking arcs source terminal reach) ↔ IsRoute arcs source terminal reach ks
+  unfolding routeOf
+  ranking-exact low s ks = (λ m. from (ranking-out m), λ r. ranking-in low s r)
+    where
+      from : Listed (routeOf arcs ks) → IsRoute arcs source terminal reach ks
+      from o = subst (λ (l : List ℕ). IsRoute arcs source terminal reach l) (sym (ap (λ (r : Route). r .arcs) (o .is))) (o .route)
+
   -- no two stand at one place, so each stands before all later ones
   pub ranking-strict : Strict precedes (ranking arcs source terminal reach)
   unfolding ranking routesFrom routeOf

@@ -109,6 +109,31 @@ pub starred : map (λ r. answer (r .table) (r .request) 96) rows ≡ map (λ r. 
 unfolding opened
 starred = refl
 
+-- every fault at once, then mended one after the other: the number is always that of the first check that applies
+abbrev pub number : List ℕ → (source terminal reach allowance size : ℕ) → ℕ
+number table source terminal reach allowance size =
+    answer table (record { source = source; terminal = terminal; reach = reach; allowance = allowance }) size .number
+
+pub checked-in-order
+    : number (replicate 2049 0) 32 32 62000001 0 95
+    ∷ number (replicate 2047 0) 32 32 62000001 0 95
+    ∷ number (arc 0 32 2000001 0) 32 32 62000001 0 95
+    ∷ number (arc 0 32 2000001 0) 32 32 62000001 0 96
+    ∷ number (arc 0 32 2000001 0) 31 31 62000001 0 96
+    ∷ number (arc 0 32 2000001 0) 0 1 62000001 0 96
+    ∷ number (arc 0 32 2000001 0) 0 1 62000000 0 96
+    ∷ number (arc 0 32 2000001 0) 0 1 62000000 1000001 96
+    ∷ number (arc 0 32 2000001 0) 0 1 62000000 1000000 96
+    ∷ number (arc 0 31 2000001 0) 0 1 62000000 1000000 96
+    ∷ number (0 ∷ 31 ∷ 1 ∷ replicate 13 0) 0 1 62000000 1000000 96
+    ∷ number (replicate 2048 0) 0 1 62000000 1000000 96
+    ∷ number (arc 0 31 2000000 0) 0 1 62000000 1000000 96
+    ∷ number (arc 0 31 2000000 0) 0 31 62000000 1000000 96
+    ∷ []
+    ≡ 2 ∷ 3 ∷ 4 ∷ 5 ∷ 6 ∷ 7 ∷ 8 ∷ 8 ∷ 9 ∷ 9 ∷ 9 ∷ 9 ∷ 10 ∷ 0 ∷ []
+unfolding opened
+checked-in-order = refl
+
 -- K: the kilometres of 0, 1, 1,000, 1,001 and 31,984 metres
 pub starred-K : map kilometres (0 ∷ 1 ∷ 1000 ∷ 1001 ∷ 31984 ∷ []) ≡ 0 ∷ 1 ∷ 1 ∷ 2 ∷ 32 ∷ []
 unfolding opened
