@@ -2,11 +2,12 @@
 use mathlib.Core.Path.{_≡_, refl, sym, ap, _∙_}
 use mathlib.Core.Bool.{Bool, true, false}
 use Prim.Native.Nat.{ℕ, zero, suc, _+_, _-_, _*_, _/_, _%_, _^_, _≤_, _<_, min, max}
-use native.Mathlib.Nat.{le-refl, pow-suc, pow-succ', div-one, div-div-eq-div-mul, div-lt-iff-lt-mul, not-suc-le-zero}
+use native.Mathlib.Nat.{le-refl, lt-of-lt-of-le, pow-suc, pow-succ', div-one, div-div-eq-div-mul, div-lt-iff-lt-mul, not-suc-le-zero}
 use native.Mathlib.Omega.{arith}
 use lib.Arith.{lt-one}
 use lib.Bits.{bitAnd, bitOr, and-step, or-step, and-shr, or-shr}
 use lib.Count.{onesIn, ones, ones-step}
+use lib.Pow.{pow-mono}
 use lib.Dec.{eqb, eqb·zero-suc, eqb·suc-zero, eqb·suc-suc, lit<}
 use borrow.Author.Tests.{eqb-true, eqb-false, ne-eqb}
 use Rattle.laws.specs.Sets.{bit, with}
@@ -68,6 +69,20 @@ bits-empty (suc d) s h f =
 below-pow : (s : ℕ) → s < 2 ^ s
 below-pow zero = omega arith
 below-pow (suc s) = rw pow-suc (omega (arith, below-pow s))
+
+-- sets with the same elements are the same
+bits-same : (d x y : ℕ) → x < 2 ^ d → y < 2 ^ d → ((r : ℕ) → bit x r ≡ bit y r) → x ≡ y
+bits-same zero x y h b f = lt-one h ∙ sym (lt-one b)
+bits-same (suc d) x y h b f =
+    let half : x / 2 ≡ y / 2 = bits-same d (x / 2) (y / 2) (div-lt-iff-lt-mul (lit< tt) .1 (rw pow-suc at h)) (div-lt-iff-lt-mul (lit< tt) .1 (rw pow-suc at b)) (λ r. simp bit-suc at (f (suc r))) in
+    omega (arith, simp bit-zero at (f 0))
+
+pub bits-ext : (x y : ℕ) → ((r : ℕ) → bit x r ≡ bit y r) → x ≡ y
+bits-ext x y f =
+    bits-same (x + y) x y (lt-of-lt-of-le (below-pow x) (pow-mono (omega arith))) (lt-of-lt-of-le (below-pow y) (pow-mono (omega arith))) f
+
+pub or-assoc : (x y z : ℕ) → bitOr (bitOr x y) z ≡ bitOr x (bitOr y z)
+or-assoc x y z = bits-ext _ _ (λ r. simp bit-or (omega arith))
 
 -- what lies within a set that has nothing in common with another has nothing in common with it either
 pub and-within : (x y z : ℕ) → ((r : ℕ) → bit x r ≤ bit y r) → bitAnd y z ≡ 0 → bitAnd x z ≡ 0

@@ -1,5 +1,6 @@
 pub mod TableLaws
 pub mod RouteLaws
+pub mod GrowthLaws
 pub mod RankingLaws
 pub mod PairLaws
 pub mod SettleLaws

@@ -1,0 +1,69 @@
+-- What a search that folds a visitor over all that grows from a node has left to do, arc by arc. The visitor is any function of a state and the arc
+-- numbers that lead on from the node; behind arc i it becomes the visitor of i ∷ ks. Assumes nothing.
+use mathlib.Core.Path.{_≡_, refl, sym, ap, ap₂, _∙_}
+use mathlib.Core.Bool.{Bool, true, false}
+use mathlib.Core.List.{List, [], _∷_, _++_, map, foldl, foldl-append, foldl-map, List·Memᴰ, List·Memᴰ·head, List·Memᴰ·tail}
+use Prim.Native.Nat.{ℕ, zero, suc, _+_, _≤_, _<_}
+use native.Mathlib.Numerals.{add-one}
+use lib.Dec.{eqb}
+use lib.ListN.{length, getD, drop, drop-of-length-le}
+use lib.Seq.{drop-cons}
+use borrow.Author.Tests.{eq-eqb, ne-eqb}
+use Rattle.laws.specs.Sets.{with}
+use Rattle.problem.specs.declared.Arc.{Arc}
+use Rattle.problem.specs.Routes.{arcAt, Way, opens, sprout, grow}
+use Rattle.problem.proofs.RouteLaws.{grow-out, grown-way}
+
+module _ {S : Type 0} where
+  -- a visitor that changes nothing anywhere in a list may pass it over
+  pub fold-idle : (visit : S → List ℕ → S) (s : S) (l : List (List ℕ)) → ((ks : List ℕ) → List·Memᴰ ks l → visit s ks ≡ s) → foldl visit s l ≡ s
+  fold-idle visit s [] f = refl
+  fold-idle visit s (ks ∷ l) f = rw (f ks (List·Memᴰ·head refl)) (fold-idle visit s l (λ x m. f x (List·Memᴰ·tail m)))
+
+  pub fold-same : (visit other : S → List ℕ → S) → ((s : S) (ks : List ℕ) → visit s ks ≡ other s ks) → (s : S) (l : List (List ℕ)) → foldl visit s l ≡ foldl other s l
+  fold-same visit other f s [] = refl
+  fold-same visit other f s (ks ∷ l) = rw (f s ks) (fold-same visit other f (other s ks) l)
+
+  module _ (arcs : List Arc) (terminal : ℕ) (visit : S → List ℕ → S) where
+    -- at the terminal there is only the end
+    pub fold-there : (n met at : ℕ) (s : S) → at ≡ terminal → foldl visit s (grow arcs terminal n met at) ≡ visit s []
+    unfolding grow
+    fold-there zero met at s e = rw (eq-eqb at terminal e, grow)
+    fold-there (suc n) met at s e = rw (eq-eqb at terminal e, grow)
+
+    module _ (n met at : ℕ) where
+      -- what is left from arc i on
+      unfoldable pub leftFrom : ℕ → S → S
+      leftFrom i s = foldl visit s (sprout (grow arcs terminal n) met at i (drop i arcs))
+
+      pub left-start : (s : S) → (at ≡ terminal → ⊥) → foldl visit s (grow arcs terminal (suc n) met at) ≡ leftFrom 0 s
+      unfolding leftFrom grow
+      left-start s ne = rw (ne-eqb at terminal ne, grow)
+
+      pub left-end : (i : ℕ) (s : S) → length arcs ≤ i → leftFrom i s ≡ s
+      unfolding leftFrom sprout
+      left-end i s h = rw (drop-of-length-le arcs h)
+
+      sprout-open : (i : ℕ) (a : Arc) (more : List Arc) → opens met at a ≡ true
+          → sprout (grow arcs terminal n) met at i (a ∷ more) ≡ map (λ ks. i ∷ ks) (grow arcs terminal n (with met (a .head)) (a .head)) ++ sprout (grow arcs terminal n) met at (suc i) more
+      unfolding sprout
+      sprout-open i a more e = rw (e, sprout)
+
+      sprout-shut : (i : ℕ) (a : Arc) (more : List Arc) → opens met at a ≡ false → sprout (grow arcs terminal n) met at i (a ∷ more) ≡ sprout (grow arcs terminal n) met at (suc i) more
+      unfolding sprout
+      sprout-shut i a more e = rw (e, sprout)
+
+      -- an arc that opens: all that grows behind it, then the rest
+      pub left-open : (i : ℕ) (s : S) → i < length arcs → opens met at (arcAt arcs i) ≡ true
+          → leftFrom i s ≡ leftFrom (i + 1) (foldl (λ (t : S) (ks : List ℕ). visit t (i ∷ ks)) s (grow arcs terminal n (with met (arcAt arcs i .head)) (arcAt arcs i .head)))
+      unfolding leftFrom
+      left-open i s h e =
+          rw (drop-cons arcs i (arcAt [] 0) h, add-one, sprout-open i (arcAt arcs i) (drop (suc i) arcs) e, foldl-append, foldl-map)
+
+      pub left-shut : (i : ℕ) (s : S) → i < length arcs → opens met at (arcAt arcs i) ≡ false → leftFrom i s ≡ leftFrom (i + 1) s
+      unfolding leftFrom
+      left-shut i s h e = rw (drop-cons arcs i (arcAt [] 0) h, add-one, sprout-shut i (arcAt arcs i) (drop (suc i) arcs) e)
+
+-- all that is grown from a node is a way from it
+pub grow-way : (arcs : List Arc) (terminal n met at : ℕ) {ks : List ℕ} → List·Memᴰ ks (grow arcs terminal n met at) → Way arcs at terminal ks
+grow-way arcs terminal n met at {ks} m = grown-way arcs terminal (grow-out arcs terminal n met at ks m)
