@@ -2,13 +2,13 @@
 use mathlib.Core.Path.{_≡_, refl, sym, _∙_}
 use mathlib.Core.Bool.{Bool, true, false, _&&_, not}
 use mathlib.Core.List.{List}
-use Prim.Native.Nat.{ℕ, zero, suc, _+_, _*_, _-_, _/_, _^_, _≤_, _<_}
-use native.Mathlib.Nat.{mod-lt, zero-lt-suc}
+use Prim.Native.Nat.{ℕ, zero, suc, _+_, _*_, _-_, _≤_}
 use native.Mathlib.Omega.{arith}
 use lib.Dec.{eqb}
 use lib.ListN.{length, getD, take, drop}
 use borrow.Author.Tests.{eq-eqb, ne-eqb}
 use Rattle.laws.specs.Sets.{bit}
+use Rattle.laws.proofs.SetLaws.{bit-le-one}
 use Rattle.problem.specs.declared.Arc.{Arc}
 use Rattle.problem.specs.Table.{numberAt, arcOf, arcsOf}
 use Rattle.problem.specs.Routes.{arcAt, opens}
@@ -25,7 +25,7 @@ arc-part table k h =
     let sixteen : 16 * k + 16 - 16 * k ≡ 16 = omega arith in
     rw sixteen (sym (arcs-at table k h))
 
-not-one : (x : ℕ) → x < 2 → not (eqb x 1) ≡ eqb x 0
+not-one : (x : ℕ) → x ≤ 1 → not (eqb x 1) ≡ eqb x 0
 not-one zero h = refl
 not-one (suc zero) h = refl
 not-one (suc (suc x)) h = absurd (omega arith)
@@ -36,5 +36,5 @@ module _ (met at : ℕ) (a : Arc) where
   opens-elsewhere n = rw (ne-eqb (a .tail) at n)
 
   pub opens-unmet : (b : Bool) → a .tail ≡ at → b ≡ eqb (bit met (a .head)) 1 → not b ≡ opens met at a
-  unfolding opens bit
-  opens-unmet b e h = rw (eq-eqb (a .tail) at e, h) (not-one _ (mod-lt (met / 2 ^ a .head) (zero-lt-suc 1)))
+  unfolding opens
+  opens-unmet b e h = rw (eq-eqb (a .tail) at e, h) (not-one _ (bit-le-one met (a .head)))

@@ -2,7 +2,7 @@
 use mathlib.Core.Path.{sym}
 use native.Mathlib.Omega.{arith}
 use lib.Bits.{bitAnd, and-lt}
-use Rattle.sets.proofs.CountLaws.{ones-at, ones-most}
+use Rattle.laws.proofs.SetLaws.{ones-at, ones-le}
 use Rattle.sets.proofs.shared_count.Statement.{statement}
 use Rattle.sets.proofs.shared_count.Tie as tie
 
@@ -11,7 +11,7 @@ returns c =
     let a = c .args .a in
     let b = c .args .b in
     let e = sym (ones-at 64 (bitAnd a b) (and-lt 64 a b (c .fits .a .fits) (c .fits .b .fits))) in
-    (e, omega (arith, e, ones-most 64 (bitAnd a b)))
+    (e, omega (arith, e, ones-le 64 (bitAnd a b)))
 
 pub shared-count-spec : {M : Type 1} → statement M
 shared-count-spec = tie.close (tie.spec returns)
