@@ -7,9 +7,9 @@ ghost use lib.ListN.{length};
 ghost use Rattle.problem.specs.Table.{arcOf, arcsOf, faultOf, isSound, allSound};
 ghost use Rattle.problem.specs.Routes.{arcAt, opens};
 
-const LAST_NODE: u8 = 31;
+pub const LAST_NODE: u8 = 31;
 
-const MOST_ARC_METRES: u32 = 2000000;
+pub const MOST_ARC_METRES: u32 = 2000000;
 
 // Numbers from their bytes, little-endian; of eight bytes, from the two halves.
 fn number2(a: u8, b: u8) -> u16
