@@ -11,28 +11,23 @@ use lib.ListN.{length, getD, drop, replicate, drop-of-length-le}
 use lib.Seq.{drop-cons}
 use borrow.Author.Tests.{lt-ltb, le-ltb}
 use Rattle.laws.specs.Choosing.{lexBy}
+use Rattle.laws.proofs.OrderLaws.{ltb-total, lex-lt, lex-eq, lex-total}
 use Rattle.problem.specs.Reply.{placesOf}
 use Rattle.track.specs.declared.Track.{Track}
 use Rattle.track.specs.Track.{routeIn, Fit, NeitherBegins}
 use Rattle.track.proofs.FitLaws.{fit-places}
 
+-- the first numbers decide, or leave it to the rest
 module _ (x y : ℕ) (l m : List ℕ) where
   pub lex-less : x < y → lexBy ltb (x ∷ l) (y ∷ m) ≡ true
-  unfolding lexBy
-  lex-less h = rw (lt-ltb x y h)
+  lex-less h = lex-lt ltb ltb-total x l y m (lt-ltb x y h)
 
   pub lex-more : y < x → lexBy ltb (x ∷ l) (y ∷ m) ≡ false
   unfolding lexBy
   lex-more h = rw (le-ltb x y (omega arith), lt-ltb y x h)
 
   pub lex-same : y ≤ x → x ≤ y → lexBy ltb (x ∷ l) (y ∷ m) ≡ lexBy ltb l m
-  unfolding lexBy
-  lex-same h k = rw (le-ltb x y h, le-ltb y x k)
-
-pub lex-irreflexive : (l : List ℕ) → lexBy ltb l l ≡ false
-unfolding lexBy
-lex-irreflexive [] = refl
-lex-irreflexive (x ∷ l) = rw (le-ltb x x (omega arith)) (lex-irreflexive l)
+  lex-same h k = lex-eq ltb ltb-total x l y m (omega arith)
 
 -- what two lists hold from place i on: their numbers there, and what they hold from the next place on
 module _ (l m : List ℕ) (i : ℕ) where
@@ -60,7 +55,7 @@ lex-differ x y l m l′ m′ equal =
 -- what stands behind two lists of which neither begins the other does not count, if it is the same behind lists of one length
 lex-behind : (l m p q : List ℕ) → NeitherBegins l m → (length l ≡ length m → p ≡ q) → lexBy ltb (l ++ p) (m ++ q) ≡ lexBy ltb l m
 unfolding lexBy
-lex-behind [] [] p q n same = rw (same refl) (lex-irreflexive q)
+lex-behind [] [] p q n same = rw (same refl) (lex-total ltb ltb-total .irrefl q)
 lex-behind [] (y ∷ m) p q n same = absurd (cons-not-nil (n .first (y ∷ m) refl))
 lex-behind (x ∷ l) [] p q n same = absurd (cons-not-nil (n .second (x ∷ l) refl))
 lex-behind (x ∷ l) (y ∷ m) p q n same =

@@ -1,0 +1,50 @@
+// The arcs of one tail, chained, so that a search at a node passes over the arcs that leave other nodes.
+// Bytes 0 to 31 are the first arc of each node, bytes from 32 on the next arc of the same tail; the number of arcs ends a chain.
+ghost use mathlib.Core.Path.{_≡_};
+ghost use Prim.Native.Nat.{_≤_, _<_};
+ghost use lib.ListN.{length};
+ghost use Rattle.problem.specs.Table.{lastNode, arcsOf};
+ghost use Rattle.chain.specs.Chain.{chainSize, mostInTable, firstIn, nextIn, Chain, Chainable};
+
+fn wide(x: u8) -> usize
+    ensures { λ r. ⌜ r ≡ x ⌝ }
+{
+    x as usize
+}
+
+// The first arc that leaves v.
+pub fn first(chain: &[u8], v: u8) -> usize
+    requires { ⌜ (length (now chain) ≡ chainSize) × (v ≤ lastNode) ⌝ }
+    ensures { λ r. ⌜ r ≡ firstIn (now (chain .entry)) v ⌝ }
+{
+    let at = v as usize;
+    wide(chain[at])
+}
+
+// The next arc of the tail of arc i.
+pub fn next(chain: &[u8], i: usize) -> usize
+    requires { ⌜ (length (now chain) ≡ chainSize) × (i < mostInTable) ⌝ }
+    ensures { λ r. ⌜ r ≡ nextIn (now (chain .entry)) i ⌝ }
+{
+    let at = 32 + i;
+    wide(chain[at])
+}
+
+// The chain of a table, made from its last arc down: each arc comes before those of its tail.
+pub fn chained(table: &[u8]) -> [u8; 160]
+    requires { ⌜ Chainable (arcsOf (now table)) ⌝ }
+    ensures { λ r. ⌜ Chain (arcsOf (now (table .entry))) r ⌝ }
+{
+    let n = table.len() / 16;
+    let mut chain = [n as u8; 160];
+    let mut i = n;
+    while 0 < i {
+        i = i - 1;
+        let a = arcs::arc_at(table, i);
+        let tail = a.tail as usize;
+        let behind = 32 + i;
+        chain[behind] = chain[tail];
+        chain[tail] = i as u8;
+    }
+    chain
+}
