@@ -10,7 +10,7 @@ use lib.Count.{onesIn, ones, ones-step}
 use lib.Pow.{pow-mono}
 use lib.Dec.{eqb, eqb·zero-suc, eqb·suc-zero, eqb·suc-suc, lit<}
 use borrow.Author.Tests.{eqb-true, eqb-false, ne-eqb}
-use Rattle.laws.specs.Sets.{bit, with}
+use Rattle.laws.specs.Sets.{bit, with, unmet}
 
 -- ---- the bits of a set, from the lowest on
 
@@ -121,10 +121,6 @@ ones-at (suc d) s h = ap (λ (x : ℕ). s % 2 + x) (ones-at d (s / 2) (div-lt-if
 
 -- ---- how many of 0 to n - 1 are not in a set
 
-unfoldable pub unmet : ℕ → ℕ → ℕ
-unmet zero s = 0
-unmet (suc n) s = (1 - bit s n) + unmet n s
-
 pub unmet-le : (n s : ℕ) → unmet n s ≤ n
 unfolding unmet
 unmet-le zero s = le-refl 0
@@ -147,3 +143,13 @@ unmet-with (suc n) h s l e = go (eqb n h) refl (unmet-with n h s)
         let out : bit s n ≡ 0 = ap (bit s) same ∙ e in
         rw (bit-with, q, out, unmet-above n h s (omega arith)) (omega arith)
     go false q ih = rw (bit-with, q, ih (omega (arith, eqb-false n h q)) e) (omega arith)
+
+-- where none is left out, each is in
+pub unmet-none : (n h s : ℕ) → unmet n s ≡ 0 → h < n → bit s h ≡ 1
+unfolding unmet
+unmet-none zero h s e l = absurd (not-suc-le-zero l)
+unmet-none (suc n) h s e l = go (eqb h n) refl (unmet-none n h s)
+  where
+    go : (b : Bool) → eqb h n ≡ b → (unmet n s ≡ 0 → h < n → bit s h ≡ 1) → bit s h ≡ 1
+    go true q ih = omega (arith, ap (bit s) (eqb-true h n q), bit-le-one s n)
+    go false q ih = ih (omega arith) (omega (arith, eqb-false h n q))

@@ -3,16 +3,18 @@
 use mathlib.Core.Path.{_≡_, refl, sym, ap, ap₂, _∙_}
 use mathlib.Core.Bool.{Bool, true, false}
 use mathlib.Core.List.{List, [], _∷_, _++_, map, foldl, foldl-append, foldl-map, List·Memᴰ, List·Memᴰ·head, List·Memᴰ·tail}
-use Prim.Native.Nat.{ℕ, zero, suc, _+_, _≤_, _<_}
+use Prim.Native.Nat.{ℕ, zero, suc, _+_, _≤_, _<_, suc-le-suc}
 use native.Mathlib.Numerals.{add-one}
+use native.Mathlib.Omega.{arith}
 use lib.Dec.{eqb}
 use lib.ListN.{length, getD, drop, drop-of-length-le}
 use lib.Seq.{drop-cons}
 use borrow.Author.Tests.{eq-eqb, ne-eqb}
-use Rattle.laws.specs.Sets.{with}
+use Rattle.laws.specs.Sets.{bit, with, unmet}
+use Rattle.laws.proofs.SetLaws.{unmet-none, unmet-with}
 use Rattle.problem.specs.declared.Arc.{Arc}
 use Rattle.problem.specs.Routes.{arcAt, Way, opens, sprout, grow}
-use Rattle.problem.proofs.RouteLaws.{grow-out, grown-way}
+use Rattle.problem.proofs.RouteLaws.{opens-new, grow-out, grown-way}
 
 module _ {S : Type 0} where
   -- a visitor that changes nothing anywhere in a list may pass it over
@@ -67,3 +69,42 @@ module _ {S : Type 0} where
 -- all that is grown from a node is a way from it
 pub grow-way : (arcs : List Arc) (terminal n met at : ℕ) {ks : List ℕ} → List·Memᴰ ks (grow arcs terminal n met at) → Way arcs at terminal ks
 grow-way arcs terminal n met at {ks} m = grown-way arcs terminal (grow-out arcs terminal n met at ks m)
+
+-- ---- more fuel than there are unvisited nodes changes nothing
+
+sprout-same : (rest other : ℕ → ℕ → List (List ℕ)) (met at k : ℕ) (arcs : List Arc)
+    → ((i : ℕ) → i < length arcs → opens met at (arcAt arcs i) ≡ true → rest (with met (arcAt arcs i .head)) (arcAt arcs i .head) ≡ other (with met (arcAt arcs i .head)) (arcAt arcs i .head))
+    → sprout rest met at k arcs ≡ sprout other met at k arcs
+unfolding sprout
+sprout-same rest other met at k [] f = refl
+sprout-same rest other met at k (a ∷ arcs) f = go (opens met at a) refl (sprout-same rest other met at (suc k) arcs (λ i h e. f (suc i) (suc-le-suc h) e))
+  where
+    go : (b : Bool) → opens met at a ≡ b → sprout rest met at (suc k) arcs ≡ sprout other met at (suc k) arcs → sprout rest met at k (a ∷ arcs) ≡ sprout other met at k (a ∷ arcs)
+    go true e ih = rw (e, sprout) (ap₂ (λ (x y : List (List ℕ)). map (λ ks. k ∷ ks) x ++ y) (f 0 (omega arith) e) ih)
+    go false e ih = rw (e, sprout) ih
+
+sprout-none : (rest : ℕ → ℕ → List (List ℕ)) (met at k : ℕ) (arcs : List Arc) → ((i : ℕ) → i < length arcs → bit met (arcAt arcs i .head) ≡ 1) → sprout rest met at k arcs ≡ []
+unfolding sprout
+sprout-none rest met at k [] f = refl
+sprout-none rest met at k (a ∷ arcs) f = go (opens met at a) refl (sprout-none rest met at (suc k) arcs (λ i h. f (suc i) (suc-le-suc h)))
+  where
+    go : (b : Bool) → opens met at a ≡ b → sprout rest met at (suc k) arcs ≡ [] → sprout rest met at k (a ∷ arcs) ≡ []
+    go true e ih = absurd (omega (arith, f 0 (omega arith), opens-new met at a e))
+    go false e ih = rw (e, sprout) ih
+
+module _ (arcs : List Arc) (terminal : ℕ) (low : (k : ℕ) → k < length arcs → arcAt arcs k .head < 32) where
+  pub grow-enough : (n met at : ℕ) → unmet 32 met ≤ n → grow arcs terminal (suc n) met at ≡ grow arcs terminal n met at
+  unfolding grow
+  grow-enough zero met at h = go (eqb at terminal) refl
+    where
+      go : (b : Bool) → eqb at terminal ≡ b → grow arcs terminal 1 met at ≡ grow arcs terminal 0 met at
+      go true e = rw (e, grow)
+      go false e = rw (e, grow) (sprout-none (grow arcs terminal 0) met at 0 arcs (λ i b. unmet-none 32 (arcAt arcs i .head) met (omega arith) (low i b)))
+  grow-enough (suc n) met at h = go (eqb at terminal) refl (grow-enough n)
+    where
+      go : (b : Bool) → eqb at terminal ≡ b → ((s x : ℕ) → unmet 32 s ≤ n → grow arcs terminal (suc n) s x ≡ grow arcs terminal n s x) → grow arcs terminal (suc (suc n)) met at ≡ grow arcs terminal (suc n) met at
+      go true e ih = rw (e, grow)
+      go false e ih =
+          rw (e, grow)
+          (sprout-same (grow arcs terminal (suc n)) (grow arcs terminal n) met at 0 arcs
+          (λ i b o. ih (with met (arcAt arcs i .head)) (arcAt arcs i .head) (omega (arith, unmet-with 32 (arcAt arcs i .head) met (low i b) (opens-new met at (arcAt arcs i) o)))))

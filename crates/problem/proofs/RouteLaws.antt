@@ -10,9 +10,9 @@ use lib.Dec.{eqb}
 use lib.ListN.{length, getD}
 use borrow.Author.Tests.{eqb-true, eqb-false, eq-eqb, ne-eqb}
 use Rattle.laws.specs.Choosing.{Pairwise, Distinct}
-use Rattle.laws.specs.Sets.{bit, with}
+use Rattle.laws.specs.Sets.{bit, with, unmet}
 use Rattle.laws.proofs.ListLaws.{pairwise-append, pairwise-map, pairwise-head, pairwise-tail}
-use Rattle.laws.proofs.SetLaws.{digit, bit-with, bit-single, bit-empty, unmet, unmet-le, unmet-with}
+use Rattle.laws.proofs.SetLaws.{digit, bit-with, bit-single, bit-empty, unmet-le, unmet-with}
 use Rattle.problem.specs.declared.Arc.{Arc}
 use Rattle.problem.specs.Routes.{arcAt, nodesFrom, Way, IsRoute, metresOf, opens, sprout, grow}
 
