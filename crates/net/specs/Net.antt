@@ -1,7 +1,7 @@
 -- What a search walks over, laid out in words: the arcs' fields by number, the chain of each node, lower bounds, the request. Assumes nothing.
-use Prim.Native.Nat.{ℕ, _+_, _≤_, _<_, _^_}
+use Prim.Native.Nat.{ℕ, zero, suc, _+_, _≤_, _<_, _^_}
 use mathlib.Core.Bool.{true}
-use mathlib.Core.List.{List}
+use mathlib.Core.List.{List, [], _∷_}
 use mathlib.Core.Path.{_≡_}
 use lib.ListN.{length, getD}
 use Rattle.problem.specs.declared.Arc.{Arc}
@@ -9,7 +9,7 @@ use Rattle.problem.specs.Table.{lastNode, mostReach, allSound}
 use Rattle.problem.specs.Routes.{arcAt, Way, metresOf}
 use Rattle.chain.specs.Chain.{Next}
 
--- where the words of each kind begin: 128 words for the arcs' risks, metres, heads and next arcs, 32 for the nodes' first arcs and lower bounds
+-- where the words of each kind begin: 128 words for the arcs' risks, metres, heads, next arcs and tails, 32 for the nodes' first arcs and lower bounds
 abbrev pub metresFrom : ℕ
 metresFrom = 128
 
@@ -19,40 +19,47 @@ headsFrom = 256
 abbrev pub nextFrom : ℕ
 nextFrom = 384
 
+abbrev pub tailsFrom : ℕ
+tailsFrom = 512
+
 abbrev pub firstFrom : ℕ
-firstFrom = 512
+firstFrom = 640
 
 abbrev pub lowerFrom : ℕ
-lowerFrom = 544
+lowerFrom = 672
 
 abbrev pub arcCountAt : ℕ
-arcCountAt = 576
+arcCountAt = 704
 
 abbrev pub terminalAt : ℕ
-terminalAt = 577
+terminalAt = 705
 
 abbrev pub reachAt : ℕ
-reachAt = 578
+reachAt = 706
 
 abbrev pub netSize : ℕ
-netSize = 579
+netSize = 707
 
 abbrev pub wordAt : List ℕ → ℕ → ℕ
 wordAt net i = getD net i 0
 
--- the words say this table, to this terminal, within this reach
-pub record Net (arcs : List Arc) (terminal reach : ℕ) (net : List ℕ) : Type 0 where
+-- the arcs that the words say: n of them, from number k on
+unfoldable pub arcsFrom : List ℕ → ℕ → ℕ → List Arc
+arcsFrom net zero k = []
+arcsFrom net (suc n) k =
+    record { tail = wordAt net (tailsFrom + k); head = wordAt net (headsFrom + k); spare = 0; metres = wordAt net (metresFrom + k); risks = wordAt net k }
+    ∷ arcsFrom net n (suc k)
+
+unfoldable pub arcsIn : List ℕ → List Arc
+arcsIn net = arcsFrom net (wordAt net arcCountAt) 0
+
+-- what else holds of words that say these arcs, to this terminal
+pub record Chained (arcs : List Arc) (terminal : ℕ) (net : List ℕ) : Type 0 where
   pub size : length net ≡ netSize
   pub few : length arcs ≤ 128
   pub sound : allSound arcs ≡ true
   pub terminal-node : terminal ≤ lastNode
-  pub reach-range : reach ≤ mostReach
-  pub arc-count : wordAt net arcCountAt ≡ length arcs
-  pub terminal-word : wordAt net terminalAt ≡ terminal
-  pub reach-word : wordAt net reachAt ≡ reach
-  pub risks : (k : ℕ) → k < length arcs → wordAt net k ≡ arcAt arcs k .risks
-  pub metres : (k : ℕ) → k < length arcs → wordAt net (metresFrom + k) ≡ arcAt arcs k .metres
-  pub head : (k : ℕ) → k < length arcs → wordAt net (headsFrom + k) ≡ arcAt arcs k .head
+  pub reach-range : wordAt net reachAt ≤ mostReach
   -- the chain of each node
   pub next : (k : ℕ) → k < length arcs → Next arcs (arcAt arcs k .tail) (k + 1) (wordAt net (nextFrom + k))
   pub first : (v : ℕ) → v ≤ lastNode → Next arcs v 0 (wordAt net (firstFrom + v))
@@ -60,3 +67,7 @@ pub record Net (arcs : List Arc) (terminal reach : ℕ) (net : List ℕ) : Type 
   pub lower : (v : ℕ) → v ≤ lastNode → {ks : List ℕ} → Way arcs v terminal ks → wordAt net (lowerFrom + v) ≤ metresOf arcs ks
   pub lower-small : (v : ℕ) → v ≤ lastNode → wordAt net (lowerFrom + v) < 2 ^ 32
   pub lower-terminal : wordAt net (lowerFrom + terminal) ≡ 0
+
+-- the words hang together
+abbrev pub Net : List ℕ → Type 0
+Net net = Chained (arcsIn net) (wordAt net terminalAt) net
