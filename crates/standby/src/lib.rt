@@ -1,0 +1,116 @@
+// The best standby of a main: the least key, shared count before metres, of all routes, found by a search that leaves out what cannot be better.
+ghost use mathlib.Core.Path.{_≡_};
+ghost use mathlib.Core.List.{foldl};
+ghost use Prim.Native.Nat.{suc, _+_, _<_, _≤_, _^_};
+ghost use lib.Bits.{bitOr};
+ghost use lib.ListN.{length};
+ghost use Rattle.laws.specs.Sets.{unmet};
+ghost use Rattle.problem.specs.Table.{mostReach};
+ghost use Rattle.problem.specs.Routes.{arcAt, grow};
+ghost use Rattle.net.specs.Net.{Net, arcsIn, wordAt, nextFrom, headsFrom, lowerFrom, terminalAt, reachAt};
+ghost use Rattle.standby.specs.Standby.{standbyKey, offer, Looked, Ready};
+
+// An arc looked at: 0 passed over, 1 it ends a better standby, 2 one may go on from its head. Then the arc that comes next,
+// and what lies behind its head: the node, the nodes met, metres, risks, and the least key of what goes over it.
+pub struct Hop {
+    pub kind: u8,
+    pub next: u64,
+    pub head: u64,
+    pub met: u64,
+    pub metres: u64,
+    pub risks: u64,
+    pub key: u64,
+}
+
+// Shared count and metres as one number that orders them so.
+pub fn standby_key(shared: u32, metres: u64) -> u64
+    requires { ⌜ (shared ≤ 65) × (metres < 2 ^ 34) ⌝ }
+    ensures { λ r. ⌜ r ≡ standbyKey shared metres ⌝ }
+{
+    shared as u64 * 4294967296 + metres
+}
+
+fn passed(next: u64) -> Hop
+    ensures { λ r. ⌜ (r .kind ≡ 0) × (r .next ≡ next) ⌝ }
+{
+    Hop {
+        kind: 0,
+        next: next,
+        head: 0,
+        met: 0,
+        metres: 0,
+        risks: 0,
+        key: 0,
+    }
+}
+
+// What arc i is to the search.
+pub fn look(net: &[u64], i: u64, met: u64, metres: u64, risks: u64, main: u64, least: u64) -> Hop
+    requires { ⌜ Net (now net) × (i < length (arcsIn (now net))) × (metres ≤ mostReach) ⌝ }
+    ensures next { λ r. ⌜ r .next ≡ wordAt (now (net .entry)) (nextFrom + i) ⌝ }
+    ensures looked { λ r. ⌜ Looked (wordAt (now (net .entry)) terminalAt) (wordAt (now (net .entry)) reachAt) (wordAt (now (net .entry)) (lowerFrom + arcAt (arcsIn (now (net .entry))) i .head)) main met metres risks least (arcAt (arcsIn (now (net .entry))) i) r ⌝ }
+{
+    let next = net::next(net, i);
+    let head = net::head(net, i);
+    if sets::has(met, head as u8) {
+        return passed(next);
+    }
+    let m = metres + net::metres(net, i);
+    let to = m + net::lower(net, head);
+    if net::reach(net) < to {
+        return passed(next);
+    }
+    let r = risks | net::risks(net, i);
+    let key = standby_key(sets::shared_count(main, r), to);
+    if least <= key {
+        return passed(next);
+    }
+    if head == net::terminal(net) {
+        return Hop {
+            kind: 1,
+            next: next,
+            head: head,
+            met: met,
+            metres: m,
+            risks: r,
+            key: key,
+        };
+    }
+    Hop {
+        kind: 2,
+        next: next,
+        head: head,
+        met: sets::with(met, head as u8),
+        metres: m,
+        risks: r,
+        key: key,
+    }
+}
+
+// The least of `bound` and the keys of all standbys that go on from `at` with `metres` and `risks` behind them.
+pub fn least_key(
+    net: &[u64],
+    main: u64,
+    at: u64,
+    met: u64,
+    metres: u64,
+    risks: u64,
+    bound: u64,
+) -> u64
+    requires { ⌜ Ready (now net) at met metres ⌝ }
+    ensures { λ r. ⌜ r ≡ foldl (offer (arcsIn (now (net .entry))) (wordAt (now (net .entry)) reachAt) main metres risks) bound (grow (arcsIn (now (net .entry))) (wordAt (now (net .entry)) terminalAt) (suc (unmet 32 met)) met at) ⌝ }
+{
+    let n = net::arc_count(net);
+    let mut least = bound;
+    let mut i = net::first(net, at);
+    while i < n {
+        let h = look(net, i, met, metres, risks, main, least);
+        i = h.next;
+        if h.kind == 1 {
+            least = h.key;
+        } else if h.kind == 2 {
+            least = least_key(net, main, h.head, h.met, h.metres, h.risks, least);
+        }
+    }
+    least
+}
