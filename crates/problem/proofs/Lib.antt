@@ -8,3 +8,4 @@ pub mod WayLaws
 pub mod ReplyLaws
 pub mod CallLaws
 pub mod Promises
+pub mod GrowthOrder
