@@ -9,3 +9,4 @@ pub mod ReplyLaws
 pub mod CallLaws
 pub mod Promises
 pub mod GrowthOrder
+pub mod WindowLaws
