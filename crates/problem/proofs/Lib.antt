@@ -10,3 +10,4 @@ pub mod CallLaws
 pub mod Promises
 pub mod GrowthOrder
 pub mod WindowLaws
+pub mod ChoiceLaws

@@ -1,22 +1,21 @@
--- J by counting: the routes that pass a length test are the first ones; where the two tests of 01's rule hold at a step,
--- J is the later of its main's rank and the first rank of half its total. Assumes nothing.
+-- J by counting. The routes of a window, those no longer than a length, are the first ones. Where the two tests of 01's rule
+-- hold at a step, J is the first step past its best pair's main whose route is no shorter than half that pair's total. Assumes nothing.
 use mathlib.Core.Path.{_≡_, refl, sym, ap, ap₂, _∙_, subst}
 use mathlib.Core.Logic.{_⊎_, inl, inr, _↔_}
 use mathlib.Core.Bool.{Bool, true, false, _||_, true≢false}
 use mathlib.Core.List.{List, [], _∷_, List·Memᴰ, Memᴰ·cast, head-eq-of-cons-eq, tail-eq-of-cons-eq}
-use Prim.Native.Nat.{ℕ, zero, suc, _+_, _*_, _-_, _/_, _≤_, _<_, min, max}
+use Prim.Native.Nat.{ℕ, zero, suc, _+_, _*_, _-_, _/_, _≤_, _<_, max}
 use native.Mathlib.Nat.{le-of-suc-le-suc, not-suc-le-zero}
 use native.Mathlib.Omega.{arith}
-use lib.Dec.{eqb, leb, ltb}
+use lib.Dec.{eqb, ltb}
 use lib.ListN.{length, getD, take, length-take}
-use borrow.Author.Tests.{eq-eqb, ne-eqb, leb-true, leb-false, le-leb, ltb-true, ltb-false, lt-ltb, le-ltb}
-use Rattle.laws.specs.Choosing.{lexBy, keep, Pairwise}
-use Rattle.laws.proofs.FirstLaws.{Least}
-use Rattle.laws.proofs.ListLaws.{Place, Early, mem-place, take-place, getD-mem, getD-take-mem, keep-in, keep-out, keep-none, pairwise-head, pairwise-tail}
+use borrow.Author.Tests.{eq-eqb, ne-eqb, leb-true, le-leb, ltb-true, ltb-false, lt-ltb, le-ltb}
+use Rattle.laws.specs.Choosing.{lexBy, keep}
+use Rattle.laws.proofs.ListLaws.{Place, Early, mem-place, take-place, getD-mem, getD-take-mem, keep-in, keep-out, keep-none, pairwise-head, pairwise-tail, pairwise-at}
 use Rattle.laws.proofs.OrderLaws.{ltb-total, lex-false, lex-lt, lex-eq}
 use Rattle.laws.proofs.SortLaws.{Strict, place-order, place-unique, keep-beginning}
 use Rattle.problem.specs.Routes.{Route, rankKey, precedes, within}
-use Rattle.problem.specs.Pairs.{Pair, sharedCount, total, judgeKey, judged, NoWorse, noRoute, best, floor, settledByLength, settled, leastSettled}
+use Rattle.problem.specs.Pairs.{Pair, sharedCount, total, judgeKey, judged, NoWorse, noRoute, best, settledByLength, settled, leastSettled}
 use Rattle.problem.proofs.RankingLaws.{key-total, precedes-weak, precedes-metres}
 use Rattle.problem.proofs.PairLaws.{pair, judge-total, Step, best-least, best-mem, best-main, best-mono, floor-le}
 use Rattle.problem.proofs.SettleLaws.{ByLength, settled-cases, settled-by, least-settled, least-settled-inside, least-settled-step, metres-mono, settled-mono, main-not-after}
@@ -39,7 +38,7 @@ unfolding precedes rankKey
 not-precedes-metres r s e = go (lex-false ltb ltb-total _ _ _ _ e)
   where
     go : (ltb (r .metres) (s .metres) ≡ true) ⊎ ((s .metres ≡ r .metres) × (lexBy ltb (s .arcs) (r .arcs) ≡ false)) → r .metres ≤ s .metres
-    go (inl l) = omega (arith, ltb-true (r .metres) (s .metres) l)
+    go (inl l) = omega (arith, ltb-true)
     go (inr l) = omega arith
 
 -- with as many shared and no more metres, the earlier main is judged first
@@ -53,12 +52,12 @@ judged-ahead p q e l m = go (ltb (total p) (total q)) refl
         (lex-eq ltb ltb-total _ _ _ _ e ∙ lex-lt ltb ltb-total (total p) [] (total q) [] f)
     go false f =
         lex-eq (lexBy ltb) key-total (sharedCount p ∷ total p ∷ []) _ (sharedCount q ∷ total q ∷ []) _
-        (ap₂ (λ (a b : ℕ). a ∷ b ∷ []) e (omega (arith, ltb-false (total p) (total q) f)))
+        (ap₂ (λ (a b : ℕ). a ∷ b ∷ []) e (omega (arith, ltb-false)))
         ∙ lex-lt (lexBy ltb) key-total (rankKey (p .main)) _ (rankKey (q .main)) _ m
 
 -- ---- how many stand before a place
 
--- at the place of a route of length x: those shorter than x, and those of length x before it
+-- before a route of length x stand those that are shorter, and those of its length with a smaller rank
 pub place-count : (routes : List Route) → Strict precedes routes → (x i : ℕ) → i < length routes → getD routes i noRoute .metres ≡ x
     → i ≡ count (shorter x) routes + count (λ r. eqb (r .metres) x) (take i routes)
 unfolding keep
@@ -78,8 +77,6 @@ place-count (r ∷ routes) strict x (suc i) h e = go (ltb (r .metres) x) refl (p
     go false f ih = rw (f, eq-eqb (r .metres) x (omega (arith, first, ltb-false (r .metres) x f)), keep) (omega arith)
 
 module _ (routes : List Route) (strict : Strict precedes routes) where
-  -- ---- places
-
   -- what the other does not precede stands at or before its place
   pub place-le : {r s : Route} (x : Place noRoute r routes) (y : Place noRoute s routes) → precedes s r ≡ false → x .at ≤ y .at
   place-le x y e = ltb-false (y .at) (x .at) (sym (place-order precedes precedes-weak noRoute routes strict (y .at) (x .at) (y .inside) (x .inside)) ∙ rw (← x .is, ← y .is) e)
@@ -94,7 +91,7 @@ module _ (routes : List Route) (strict : Strict precedes routes) where
       let q : precedes r s ≡ false = ap (lexBy ltb (rankKey r)) (sym e) ∙ key-total .irrefl (rankKey r) in
       x .is ∙ ap (λ (k : ℕ). getD routes k noRoute) (omega (arith, place-le x y p, place-le y x q)) ∙ sym (y .is)
 
-  -- where a test that holds of a route holds of all before it, the place of a route tells whether it passes
+  -- a test that holds of all before one that passes: those that pass are the first ones
   module _ (test : Route → Bool) (down : (r s : Route) → precedes r s ≡ true → test s ≡ true → test r ≡ true) where
     keep-first : keep test routes ≡ take (count test routes) routes
     keep-first = keep-beginning precedes test strict down
@@ -110,48 +107,49 @@ module _ (routes : List Route) (strict : Strict precedes routes) where
         subst (λ (l : List Route). List·Memᴰ (getD routes k noRoute) l) (sym keep-first)
         (getD-take-mem noRoute (count test routes) routes k h (omega (arith, count-inside)))
 
-    place-test : (k : ℕ) → k < length routes → test (getD routes k noRoute) ≡ ltb k (count test routes)
-    place-test k h = go (test (getD routes k noRoute)) refl (ltb k (count test routes)) refl
-      where
-        go : (s : Bool) → test (getD routes k noRoute) ≡ s → (t : Bool) → ltb k (count test routes) ≡ t → test (getD routes k noRoute) ≡ ltb k (count test routes)
-        go s e true f = keep-out test routes (place-keep k (ltb-true _ _ f)) .1 ∙ sym f
-        go false e false f = e ∙ sym f
-        go true e false f =
-            let x = keep-place (keep-in test routes (getD-mem noRoute routes k h) e) in
-            absurd (omega (arith, x .early, ltb-false k (count test routes) f, place-unique precedes precedes-weak noRoute routes strict k (x .at) h (x .inside) (x .is)))
+  shorter-down : (x : ℕ) (r s : Route) → precedes r s ≡ true → shorter x s ≡ true → shorter x r ≡ true
+  shorter-down x r s p e = lt-ltb (r .metres) x (omega (arith, precedes-metres r s p, ltb-true (s .metres) x e))
+
+  within-down : (x : ℕ) (r s : Route) → precedes r s ≡ true → within x s ≡ true → within x r ≡ true
+  unfolding within
+  within-down x r s p e = le-leb (r .metres) x (omega (arith, precedes-metres r s p, leb-true (s .metres) x e))
 
   -- a route is at least x long exactly where all that are shorter than x stand before it
   pub shorter-place : (x k : ℕ) → k < length routes → (count (shorter x) routes ≤ k) ↔ (x ≤ getD routes k noRoute .metres)
-  shorter-place x k h = (λ l. ltb-false (getD routes k noRoute .metres) x (e ∙ le-ltb k (count (shorter x) routes) l), λ l. ltb-false k (count (shorter x) routes) (sym e ∙ le-ltb (getD routes k noRoute .metres) x l))
+  shorter-place x k h = (λ l. omega (arith, late l), λ l. omega (arith, early l))
     where
-      e : shorter x (getD routes k noRoute) ≡ ltb k (count (shorter x) routes)
-      e = place-test (shorter x) (λ r s p f. lt-ltb (r .metres) x (omega (arith, precedes-metres r s p, ltb-true (s .metres) x f))) k h
+      late : count (shorter x) routes ≤ k → getD routes k noRoute .metres < x → ⊥
+      late l s =
+          let e = keep-place (shorter x) (shorter-down x) (keep-in (shorter x) routes (getD-mem noRoute routes k h) (lt-ltb (getD routes k noRoute .metres) x s)) in
+          omega (arith, e .early, place-unique precedes precedes-weak noRoute routes strict k (e .at) h (e .inside) (e .is))
+
+      early : x ≤ getD routes k noRoute .metres → k < count (shorter x) routes → ⊥
+      early l s = omega (arith, ltb-true (getD routes k noRoute .metres) x (keep-out (shorter x) routes (place-keep (shorter x) (shorter-down x) k s) .1))
 
   -- ---- a window: the routes no longer than hi
 
   module _ (hi : ℕ) where
-    within-down : (r s : Route) → precedes r s ≡ true → within hi s ≡ true → within hi r ≡ true
-    unfolding within
-    within-down r s p e = le-leb (r .metres) hi (omega (arith, precedes-metres r s p, leb-true (s .metres) hi e))
-
     pub window-step : 0 < count (within hi) routes → Step routes (count (within hi) routes)
-    window-step h = record { from-one = h; to-N = count-inside (within hi) within-down }
+    window-step h = record { from-one = h; to-N = count-inside (within hi) (within-down hi) }
 
     -- the last of them is one of them, and none of them is longer
     pub window-last : 0 < count (within hi) routes → List·Memᴰ (getD routes (count (within hi) routes - 1) noRoute) (keep (within hi) routes)
-    window-last h = place-keep (within hi) within-down (count (within hi) routes - 1) (omega arith)
+    window-last h = place-keep (within hi) (within-down hi) (count (within hi) routes - 1) (omega arith)
 
     pub window-longest : {r : Route} → List·Memᴰ r (keep (within hi) routes) → r .metres ≤ getD routes (count (within hi) routes - 1) noRoute .metres
     window-longest m =
-        let x = keep-place (within hi) within-down m in
-        rw (x .is) (metres-mono routes strict (x .at) (count (within hi) routes - 1) (omega (arith, x .early)) (omega (arith, x .early, count-inside (within hi) within-down)))
+        let x = keep-place (within hi) (within-down hi) m in
+        rw (x .is) (metres-mono routes strict (x .at) (count (within hi) routes - 1) (omega (arith, x .early)) (omega (arith, x .early, count-inside (within hi) (within-down hi))))
 
   -- ---- the best pair
 
-  -- twice the main's length is at most the total
-  pub best-main-half : {j : ℕ} → Step routes j → best routes j .main .metres ≤ half (best routes j)
+  main-metres : {j : ℕ} → Step routes j → best routes j .main .metres ≤ best routes j .standby .metres
+  main-metres {j} step = not-precedes-metres (best routes j .main) (best routes j .standby) (main-not-after routes strict step)
+
+  -- the main has at most half the total
+  pub main-half : {j : ℕ} → Step routes j → best routes j .main .metres ≤ half (best routes j)
   unfolding total
-  best-main-half {j} step = omega (arith, not-precedes-metres (best routes j .main) (best routes j .standby) (main-not-after routes strict step))
+  main-half step = omega (arith, main-metres step)
 
   take-more : {i j : ℕ} {r : Route} → i ≤ j → List·Memᴰ r (take i routes) → List·Memᴰ r (take j routes)
   take-more {i} {j} l m =
@@ -165,25 +163,26 @@ module _ (routes : List Route) (strict : Strict precedes routes) where
       let x = take-place noRoute i routes m in
       let early : Step routes i = record { from-one = omega (arith, x .early); to-N = omega (arith, step .to-N) } in
       let n = best-mem routes early in
-      let e = tail-eq-of-cons-eq (judge-total .tri (judgeKey (best routes i)) (judgeKey (best routes j)) (best-least routes j (take-more l (n .0)) (n .1)) (best-least routes i m (best-mem routes step .1))) in
+      let e : judgeKey (best routes i) ≡ judgeKey (best routes j) = judge-total .tri _ _ (best-least routes j (take-more l (n .0)) (n .1)) (best-least routes i m (best-mem routes step .1)) in
+      let f = tail-eq-of-cons-eq e in
       ap₂ pair
-      (route-unique (best-main routes early) (best-main routes step) (head-eq-of-cons-eq e))
-      (route-unique (n .1) (best-mem routes step .1) (head-eq-of-cons-eq (tail-eq-of-cons-eq e)))
+      (route-unique (best-main routes early) (best-main routes step) (head-eq-of-cons-eq f))
+      (route-unique (n .1) (best-mem routes step .1) (head-eq-of-cons-eq (tail-eq-of-cons-eq f)))
 
-  -- ---- steps that are not settled
+  -- ---- J from a step that is settled, or is not
+
+  J-le : {j : ℕ} → Step routes j → settled routes j ≡ true → leastSettled routes ≤ j
+  J-le {j} step e =
+      let no : j < leastSettled routes → ⊥ = λ l. true≢false (sym e ∙ least-settled routes (omega (arith, step .from-one, step .to-N)) .none-before j (step .from-one) l) in
+      omega arith
 
   pub not-yet : {j : ℕ} → Step routes j → settledByLength routes j ≡ false → j < length routes → j < leastSettled routes
   unfolding settled
-  not-yet {j} step e l = go (ltb j (leastSettled routes)) refl
-    where
-      open-step : settled routes j ≡ false
-      open-step = ap (λ (b : Bool). b || settledByLength routes j) (ne-eqb j (length routes) (λ q. omega arith)) ∙ e
-
-      go : (b : Bool) → ltb j (leastSettled routes) ≡ b → j < leastSettled routes
-      go true f = ltb-true _ _ f
-      go false f =
-          let some : 0 < length routes = omega (arith, step .from-one) in
-          absurd (true≢false (sym (settled-mono routes strict (least-settled-step routes some) (ltb-false j (leastSettled routes) f) (step .to-N) (least-settled routes some .holds)) ∙ open-step))
+  not-yet {j} step e l =
+      let some : 0 < length routes = omega arith in
+      let not-settled : settled routes j ≡ false = ap (λ (b : Bool). b || settledByLength routes j) (ne-eqb j (length routes) (λ q. omega arith)) ∙ e in
+      let no : leastSettled routes ≤ j → ⊥ = λ m. true≢false (sym (settled-mono routes strict (least-settled-step routes some) m (step .to-N) (least-settled routes some .holds)) ∙ not-settled) in
+      omega arith
 
   -- where the two tests do not hold at N, they hold nowhere
   pub last-only : 0 < length routes → settledByLength routes (length routes) ≡ false → leastSettled routes ≡ length routes
@@ -196,11 +195,8 @@ module _ (routes : List Route) (strict : Strict precedes routes) where
       last : Pair
       last = best routes (length routes)
 
-      inside : leastSettled routes ≤ length routes
-      inside = least-settled-inside routes h
-
       longer : getD routes (leastSettled routes - 1) noRoute .metres ≤ getD routes (length routes - 1) noRoute .metres
-      longer = metres-mono routes strict (leastSettled routes - 1) (length routes - 1) (omega (arith, inside)) (omega arith)
+      longer = metres-mono routes strict (leastSettled routes - 1) (length routes - 1) (omega (arith, least-settled-inside routes h)) (omega arith)
 
       both : ByLength routes (leastSettled routes) → NoWorse (sharedCount last) (total last) (sharedCount now) (total now) → settledByLength routes (length routes) ≡ true
       both b (NoWorse.fewer l) =
@@ -210,101 +206,96 @@ module _ (routes : List Route) (strict : Strict precedes routes) where
 
       go : (leastSettled routes ≡ length routes) ⊎ ByLength routes (leastSettled routes) → leastSettled routes ≡ length routes
       go (inl f) = f
-      go (inr b) = absurd (true≢false (sym (both b (best-mono routes (least-settled-step routes h) inside)) ∙ e))
+      go (inr b) = absurd (true≢false (sym (both b (best-mono routes (least-settled-step routes h) (least-settled-inside routes h))) ∙ e))
 
-  -- ---- the counted step
+  -- ---- the counted step: the two tests hold at j
 
   module _ {j : ℕ} (step : Step routes j) (b : ByLength routes j) where
-    some : 0 < length routes
-    some = omega (arith, step .from-one, step .to-N)
+    abbrev J : ℕ
+    J = leastSettled routes
 
-    J : Least (settled routes) 1 (leastSettled routes)
-    J = least-settled routes some
+    abbrev p : Pair
+    p = best routes j
 
-    main : Early noRoute (best routes j .main) routes j
+    J-step : Step routes J
+    J-step = least-settled-step routes (omega (arith, step .from-one, step .to-N))
+
+    J-early : J ≤ j
+    J-early = J-le step (settled-by routes j b)
+
+    -- J is j, or the two tests hold at J
+    J-cases : (J ≡ j) ⊎ ByLength routes J
+    J-cases = go (settled-cases routes J (least-settled routes (omega (arith, J-step .from-one, J-step .to-N)) .holds))
+      where
+        go : (J ≡ length routes) ⊎ ByLength routes J → (J ≡ j) ⊎ ByLength routes J
+        go (inl e) = inl (omega (arith, J-early, step .to-N))
+        go (inr c) = inr c
+
+    main : Early noRoute (p .main) routes j
     main = take-place noRoute j routes (best-mem routes step .0)
 
-    J-le : leastSettled routes ≤ j
-    J-le = go (ltb j (leastSettled routes)) refl
-      where
-        go : (s : Bool) → ltb j (leastSettled routes) ≡ s → leastSettled routes ≤ j
-        go true e = absurd (true≢false (sym (settled-by routes j b) ∙ J .none-before j (step .from-one) (ltb-true j (leastSettled routes) e)))
-        go false e = ltb-false j (leastSettled routes) e
+    main-among : (n : ℕ) → main .at < n → List·Memᴰ (p .main) (take n routes)
+    main-among n h = Memᴰ·cast (main .is) (getD-take-mem noRoute n routes (main .at) h (main .inside))
 
-    -- a settled step before the main would have a pair with no more metres and an earlier main
-    main-in-J : main .at < leastSettled routes
+    -- a settled step before the main has a pair with no more metres and an earlier main
+    main-in-J : main .at < J
     unfolding total
-    main-in-J = go (ltb (main .at) (leastSettled routes)) refl
+    main-in-J = let no : J ≤ main .at → ⊥ = λ l. late l J-cases in omega arith
       where
-        now : Pair
-        now = best routes (leastSettled routes)
-
-        late : leastSettled routes ≤ main .at → (leastSettled routes ≡ length routes) ⊎ ByLength routes (leastSettled routes) → ⊥
-        late l (inl e) = omega (arith, main .inside)
+        late : J ≤ main .at → (J ≡ j) ⊎ ByLength routes J → ⊥
+        late l (inl e) = omega (arith, main .early)
         late l (inr c) =
-            let t = least-settled-step routes some in
-            let x = take-place noRoute (leastSettled routes) routes (best-mem routes t .0) in
-            let short : getD routes (leastSettled routes - 1) noRoute .metres ≤ best routes j .main .metres = rw (main .is) (metres-mono routes strict (leastSettled routes - 1) (main .at) (omega arith) (main .inside)) in
+            let n = best-mem routes J-step in
+            let x = take-place noRoute J routes (n .0) in
+            let short : getD routes (J - 1) noRoute .metres ≤ p .main .metres = rw (main .is) (metres-mono routes strict (J - 1) (main .at) (omega arith) (main .inside)) in
+            let ahead : precedes (best routes J .main) (p .main) ≡ true = rw (x .is, main .is) (pairwise-at noRoute routes strict (x .at) (main .at) (omega (arith, x .early)) (main .inside)) in
             true≢false
-            (sym (judged-ahead now (best routes j) (c .meets-floor ∙ sym (b .meets-floor))
-            (omega (arith, c .long-enough, not-precedes-metres (best routes j .main) (best routes j .standby) (main-not-after routes strict step)))
-            (rw (x .is, main .is) (place-order precedes precedes-weak noRoute routes strict (x .at) (main .at) (x .inside) (main .inside) ∙ lt-ltb (x .at) (main .at) (omega (arith, x .early)))))
-            ∙ best-least routes j (take-more J-le (best-mem routes t .0)) (best-mem routes t .1))
-
-        go : (s : Bool) → ltb (main .at) (leastSettled routes) ≡ s → main .at < leastSettled routes
-        go true e = ltb-true _ _ e
-        go false e = absurd (late (ltb-false _ _ e) (settled-cases routes (leastSettled routes) (J .holds)))
-
-    main-early : (n : ℕ) → main .at < n → List·Memᴰ (best routes j .main) (take n routes)
-    main-early n h = Memᴰ·cast (main .is) (getD-take-mem noRoute n routes (main .at) h (main .inside))
+            (sym (judged-ahead (best routes J) p (c .meets-floor ∙ sym (b .meets-floor)) (omega (arith, c .long-enough, main-metres step)) ahead)
+            ∙ best-least routes j (take-more J-early (n .0)) (n .1))
 
     -- J has the same best pair
     pub counted-best : best routes (leastSettled routes) ≡ best routes j
-    counted-best = best-same step J-le (main-early (leastSettled routes) main-in-J)
+    counted-best = best-same step J-early (main-among J main-in-J)
 
-    -- how many are shorter than half the total
-    abbrev below : ℕ
-    below = count (shorter (half (best routes j))) routes
-
-    -- route J is no shorter than that
-    below-J : below < leastSettled routes
-    below-J = go (settled-cases routes (leastSettled routes) (J .holds))
+    -- route J is no shorter than half the total
+    below-J : count (shorter (half p)) routes < J
+    below-J = omega (arith, J-step .from-one, shorter-place (half p) (J - 1) (omega (arith, J-step .from-one, J-step .to-N)) .1 (omega (arith, go J-cases)))
       where
-        at-last : total (best routes j) ≤ 2 * getD routes (leastSettled routes - 1) noRoute .metres → below < leastSettled routes
-        at-last l = omega (arith, J .from, shorter-place (half (best routes j)) (leastSettled routes - 1) (omega (arith, J .from, least-settled-inside routes some)) .1 (omega arith))
+        go : (J ≡ j) ⊎ ByLength routes J → total p ≤ 2 * getD routes (J - 1) noRoute .metres
+        go (inl e) = rw e (b .long-enough)
+        go (inr c) = omega (arith, c .long-enough, ap total counted-best)
 
-        go : (leastSettled routes ≡ length routes) ⊎ ByLength routes (leastSettled routes) → below < leastSettled routes
-        go (inl e) = let same : leastSettled routes ≡ j = omega (arith, J-le, step .to-N) in at-last (rw same (b .long-enough))
-        go (inr c) = at-last (omega (arith, c .long-enough, ap total counted-best))
-
-    counted-at : leastSettled routes ≡ suc (max (main .at) below)
-    counted-at = go (ltb next (leastSettled routes)) refl
+    -- at the first step past the main and past all that are shorter, the two tests hold
+    counted-at : J ≡ suc (max (main .at) (count (shorter (half p)) routes))
+    counted-at = omega (arith, main-in-J, below-J, J-le (record { from-one = omega arith; to-N = omega (arith, inside, step .to-N) }) (settled-by routes next tests))
       where
         next : ℕ
-        next = suc (max (main .at) below)
+        next = suc (max (main .at) (count (shorter (half p)) routes))
 
-        go : (s : Bool) → ltb next (leastSettled routes) ≡ s → leastSettled routes ≡ next
-        go false e = omega (arith, main-in-J, below-J, ltb-false next (leastSettled routes) e)
-        go true e =
-            let l : next < leastSettled routes = ltb-true next (leastSettled routes) e in
-            let same : best routes next ≡ best routes j = best-same step (omega (arith, J-le)) (main-early next (omega arith)) in
-            let long : half (best routes j) ≤ getD routes (next - 1) noRoute .metres = shorter-place (half (best routes j)) (next - 1) (omega (arith, least-settled-inside routes some)) .0 (omega arith) in
-            let c : ByLength routes next = record { meets-floor = ap sharedCount same ∙ b .meets-floor; long-enough = omega (arith, ap total same) } in
-            absurd (true≢false (sym (settled-by routes next c) ∙ J .none-before next (omega arith) l))
+        inside : next ≤ j
+        inside = omega (arith, main-in-J, below-J, J-early)
 
-    -- J is one more than the main's place or the number of routes shorter than half the total, whichever is larger
+        same : best routes next ≡ p
+        same = best-same step inside (main-among next (omega arith))
+
+        tests : ByLength routes next
+        tests =
+            record {
+              meets-floor = ap sharedCount same ∙ b .meets-floor;
+              long-enough = omega (arith, ap total same, shorter-place (half p) (next - 1) (omega (arith, inside, step .to-N)) .0 (omega arith));
+            }
+
+    -- J is one more than the main's place, or than the number of routes shorter than half the total, whichever is larger
     pub counted : (i : ℕ) → i < j → getD routes i noRoute ≡ best routes j .main → leastSettled routes ≡ suc (max i (count (shorter (half (best routes j))) routes))
     counted i l e = rw (place-unique precedes precedes-weak noRoute routes strict i (main .at) (omega (arith, step .to-N)) (main .inside) (e ∙ main .is)) counted-at
 
     -- a main shorter than half the total is one of them
     pub counted-shorter : best routes j .main .metres < half (best routes j) → leastSettled routes ≡ suc (count (shorter (half (best routes j))) routes)
-    counted-shorter l = go (leb below (main .at)) refl
-      where
-        go : (s : Bool) → leb below (main .at) ≡ s → leastSettled routes ≡ suc below
-        go true e = absurd (omega (arith, shorter-place (half (best routes j)) (main .at) (main .inside) .0 (leb-true below (main .at) e), ap (λ (r : Route). r .metres) (main .is)))
-        go false e = omega (arith, counted-at, leb-false below (main .at) e)
+    counted-shorter l =
+        let no : count (shorter (half p)) routes ≤ main .at → ⊥ = λ m. omega (arith, shorter-place (half p) (main .at) (main .inside) .0 m, ap (λ (r : Route). r .metres) (main .is)) in
+        omega (arith, counted-at)
 
-    -- with a main of half the total none of them stands after it
+    -- before a main of half the total stand all that are shorter
     pub counted-half : (i : ℕ) → i < j → getD routes i noRoute ≡ best routes j .main → best routes j .main .metres ≡ half (best routes j) → leastSettled routes ≡ suc i
     counted-half i l e f =
-        omega (arith, counted i l e, shorter-place (half (best routes j)) i (omega (arith, step .to-N)) .1 (omega (arith, ap (λ (r : Route). r .metres) e)))
+        omega (arith, counted i l e, shorter-place (half p) i (omega (arith, step .to-N)) .1 (omega (arith, ap (λ (r : Route). r .metres) e)))
