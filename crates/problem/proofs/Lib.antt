@@ -10,4 +10,3 @@ pub mod CallLaws
 pub mod Promises
 pub mod GrowthOrder
 pub mod WindowLaws
-pub mod ChoiceLaws

@@ -150,7 +150,7 @@ module _ (routes : List Route) where
       let m = getD-take-mem noRoute j routes 0 (s .from-one) (omega arith) in
       pairs-out (take j routes) routes (first-mem judged (pair noRoute noRoute) (pairs-in m (getD-mem noRoute routes 0 (omega arith))))
 
-  take-mem : (j : ℕ) {r : Route} → List·Memᴰ r (take j routes) → List·Memᴰ r routes
+  pub take-mem : (j : ℕ) {r : Route} → List·Memᴰ r (take j routes) → List·Memᴰ r routes
   take-mem j m = let e = take-place noRoute j routes m in Memᴰ·cast (e .is) (getD-mem noRoute routes (e .at) (e .inside))
 
   pub best-main : {j : ℕ} → Step j → List·Memᴰ (best routes j .main) routes

@@ -80,7 +80,7 @@ module _ (routes : List Route) where
     floor-best s = floor-le routes (best-main routes s) (best-mem routes s .1)
 
     -- best(j) cannot share less than the floor, its total only falls, and route j only gets longer
-    by-length-mono : {i j : ℕ} → Step routes i → i ≤ j → j ≤ length routes → ByLength routes i → ByLength routes j
+    pub by-length-mono : {i j : ℕ} → Step routes i → i ≤ j → j ≤ length routes → ByLength routes i → ByLength routes j
     by-length-mono {i} {j} s l b p = go (best-mono routes s l)
       where
         t : Step routes j

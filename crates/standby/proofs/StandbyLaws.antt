@@ -19,15 +19,12 @@ use Rattle.problem.proofs.TableLaws.{sound-at}
 use Rattle.problem.proofs.RouteLaws.{opens-by, opens-new}
 use Rattle.problem.proofs.GrowthLaws.{fold-idle, fold-same, fold-there, grow-way, leftFrom, left-start, left-end, left-open, left-shut}
 use Rattle.chain.specs.Chain.{Next}
+use Rattle.keys.specs.Keys.{standbyKey}
+use Rattle.keys.proofs.BoundLaws.{standbyKey-mono}
 use Rattle.net.specs.Net.{nextFrom, firstFrom, lowerFrom, terminalAt, reachAt, wordAt, arcsIn, Net}
 use Rattle.net.proofs.NetLaws.{left-next}
 use Rattle.standby.specs.declared.Hop.{Hop}
-use Rattle.standby.specs.Standby.{standbyKey, offer, Looked}
-
--- more shared and more metres make no smaller key
-pub key-mono : {n n′ m m′ : ℕ} → n ≤ n′ → m ≤ m′ → standbyKey n m ≤ standbyKey n′ m′
-unfolding standbyKey
-key-mono h l = omega arith
+use Rattle.standby.specs.Standby.{offer, Looked}
 
 -- more risks behind share no less
 shared-mono : (main risks more : ℕ) → onesIn 64 (bitAnd main risks) ≤ onesIn 64 (bitAnd main (bitOr risks more))
@@ -66,7 +63,7 @@ module _ (arcs : List Arc) (reach main : ℕ) where
       go : (b : Bool) → leb (metres + metresOf arcs ks) reach ≡ b → offer arcs reach main metres risks least ks ≡ least
       go true e =
           let longer : metres + lower ≤ metres + metresOf arcs ks = omega arith in
-          rw (e, offer) (omega (arith, h, key-mono (shared-mono main risks (risksOf arcs ks)) longer))
+          rw (e, offer) (omega (arith, h, standbyKey-mono (shared-mono main risks (risksOf arcs ks)) longer))
       go false e = rw (e, offer)
 
   -- a better one that ends here is the least

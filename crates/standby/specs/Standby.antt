@@ -12,12 +12,9 @@ use Rattle.laws.specs.Sets.{bit, with}
 use Rattle.problem.specs.declared.Arc.{Arc}
 use Rattle.problem.specs.Table.{lastNode}
 use Rattle.problem.specs.Routes.{metresOf, risksOf}
+use Rattle.keys.specs.Keys.{standbyKey}
 use Rattle.net.specs.Net.{terminalAt, reachAt, wordAt, Net}
 use Rattle.standby.specs.declared.Hop.{Hop}
-
--- shared count and metres as one number that orders them so
-unfoldable pub standbyKey : ℕ → ℕ → ℕ
-standbyKey shared metres = shared * 2 ^ 32 + metres
 
 -- the least key so far, after one more standby: `metres` and `risks` lie behind, ks ahead; past the reach it is none
 unfoldable pub offer : List Arc → ℕ → ℕ → ℕ → ℕ → ℕ → List ℕ → ℕ

@@ -8,7 +8,7 @@ ghost use Rattle.laws.specs.Sets.{unmet};
 ghost use Rattle.problem.specs.Table.{mostReach};
 ghost use Rattle.problem.specs.Routes.{arcAt, grow};
 ghost use Rattle.net.specs.Net.{Net, arcsIn, wordAt, nextFrom, headsFrom, lowerFrom, terminalAt, reachAt};
-ghost use Rattle.standby.specs.Standby.{standbyKey, offer, Looked, Ready};
+ghost use Rattle.standby.specs.Standby.{offer, Looked, Ready};
 
 // An arc looked at: 0 passed over, 1 it ends a better standby, 2 one may go on from its head. Then the arc that comes next,
 // and what lies behind its head: the node, the nodes met, metres, risks, and the least key of what goes over it.
@@ -20,14 +20,6 @@ pub struct Hop {
     pub metres: u64,
     pub risks: u64,
     pub key: u64,
-}
-
-// Shared count and metres as one number that orders them so.
-pub fn standby_key(shared: u32, metres: u64) -> u64
-    requires { ⌜ (shared ≤ 65) × (metres < 2 ^ 34) ⌝ }
-    ensures { λ r. ⌜ r ≡ standbyKey shared metres ⌝ }
-{
-    shared as u64 * 4294967296 + metres
 }
 
 fn passed(next: u64) -> Hop
@@ -61,7 +53,7 @@ pub fn look(net: &[u64], i: u64, met: u64, metres: u64, risks: u64, main: u64, l
         return passed(next);
     }
     let r = risks | net::risks(net, i);
-    let key = standby_key(sets::shared_count(main, r), to);
+    let key = keys::standby_key(sets::shared_count(main, r) as u64, to);
     if least <= key {
         return passed(next);
     }

@@ -70,6 +70,9 @@ risks-requires c κs = search needs
 shared-count-requires : tie.Need-shared-count-requires
 shared-count-requires c κs = search needs
 
+cast-standby-key : tie.Need-cast-standby-key
+cast-standby-key c = search needs
+
 standby-key-requires : tie.Need-standby-key-requires
 standby-key-requires c κs = search needs
 
@@ -152,6 +155,7 @@ look-spec =
     returns-2
     risks-requires
     shared-count-requires
+    cast-standby-key
     standby-key-requires
     passed-requires-3
     returns-3

@@ -14,20 +14,14 @@ use Rattle.laws.proofs.FirstLaws.{first-mem}
 use Rattle.laws.proofs.ListLaws.{mem-place, take-place, getD-mem, getD-take-mem}
 use Rattle.laws.proofs.OrderLaws.{lex-false, lex-eq}
 use Rattle.laws.proofs.SortLaws.{Strict}
 use Rattle.problem.specs.declared.Arc.{Arc}
 use Rattle.problem.specs.Table.{mostReach}
 use Rattle.problem.specs.Routes.{Route, routeOf, rankKey, precedes, ranking}
 use Rattle.problem.specs.Pairs.{Pair, sharedCount, total, judgeKey, judged, NoWorse, noRoute, best}
 use Rattle.problem.proofs.RankingLaws.{key-total, ranking-out}
 use Rattle.problem.proofs.PairLaws.{pair, pairs-in, pairs-out, judged-no-worse, Step, best-least, best-mem, best-main}
+use Rattle.keys.specs.Keys.{pairKey, keyOf}
 use Rattle.problem.proofs.WindowLaws.{not-precedes-metres, judged-ahead, place-le, route-unique}
-
--- the judgement's first three places in one number: a total has 27 bits, a length 26
-unfoldable pub pairKey : ℕ → ℕ → ℕ → ℕ
-pairKey shared total metres = (shared * 2 ^ 27 + total) * 2 ^ 26 + metres
-
-unfoldable pub keyOf : Pair → ℕ
-keyOf p = pairKey (sharedCount p) (total p) (p .main .metres)
 
 -- ---- the key says the three numbers, and compares as they do
 

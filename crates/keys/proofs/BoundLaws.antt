@@ -1,0 +1,74 @@
+-- Better standbys make better pairs: the order of standby keys is that of the pairs they make with one main. Assumes nothing.
+use mathlib.Core.Path.{_≡_, refl, sym, ap, _∙_}
+use mathlib.Core.Logic.{_↔_}
+use mathlib.Core.Bool.{Bool, true, false}
+use Prim.Native.Nat.{ℕ, _+_, _*_, _-_, _/_, _%_, _^_, _≤_, _<_}
+use native.Mathlib.Omega.{arith}
+use lib.Dec.{ltb}
+use borrow.Author.Tests.{ltb-true, ltb-false}
+use Rattle.keys.specs.Keys.{standbyKey, pairKey, boundFor, pairOf}
+
+-- more shared and more metres make no smaller key
+pub standbyKey-mono : {n n′ m m′ : ℕ} → n ≤ n′ → m ≤ m′ → standbyKey n m ≤ standbyKey n′ m′
+unfolding standbyKey
+standbyKey-mono h l = omega arith
+
+module _ (x n m : ℕ) (xs : x < 2 ^ 26) (ms : m < 2 ^ 26) where
+  pub pairOf-key : pairOf x (standbyKey n m) ≡ pairKey n (x + m) x
+  unfolding pairOf standbyKey
+  pairOf-key =
+      let a : (n * 4294967296 + m) / 4294967296 ≡ n = omega arith in
+      let b : (n * 4294967296 + m) % 4294967296 ≡ m = omega arith in
+      rw (a, b)
+
+  -- against a pair of S shared, T in total and a main of M metres: with as many shared, a total below `top` wins
+  against : (S T M top : ℕ) → T < 2 ^ 27 → M < 2 ^ 26 → top ≤ T + 1 → (x + m < top) ↔ ((x + m) * 2 ^ 26 + x < T * 2 ^ 26 + M)
+      → (standbyKey n m < standbyKey S (top - x)) ↔ (pairKey n (x + m) x < pairKey S T M)
+  unfolding standbyKey pairKey
+  against S T M top ts mm small less = (λ l. to (ltb n S) refl l, λ l. from (ltb n S) refl l)
+    where
+      to : (b : Bool) → ltb n S ≡ b → n * 4294967296 + m < S * 4294967296 + (top - x) → (n * 134217728 + (x + m)) * 67108864 + x < (S * 134217728 + T) * 67108864 + M
+      to true e l = let h = ltb-true n S e in omega arith
+      to false e l =
+          let h = ltb-false n S e in
+          let same : n ≡ S = omega arith in
+          let won : x + m < top = omega arith in
+          omega (arith, same, less .0 won)
+
+      from : (b : Bool) → ltb n S ≡ b → (n * 134217728 + (x + m)) * 67108864 + x < (S * 134217728 + T) * 67108864 + M → n * 4294967296 + m < S * 4294967296 + (top - x)
+      from true e l = let h = ltb-true n S e in omega arith
+      from false e l =
+          let h = ltb-false n S e in
+          let same : n ≡ S = omega arith in
+          let won : x + m < top = less .1 (omega arith) in
+          omega (arith, same, won)
+
+  -- below the bound exactly where the pair is better than the best
+  pub bound-better : (best : ℕ) → (standbyKey n m < boundFor best x) ↔ (pairKey n (x + m) x < best)
+  unfolding boundFor pairKey
+  bound-better best = go (ltb x (best % 2 ^ 26)) refl
+    where
+      shared : ℕ
+      shared = best / 2 ^ 26 / 2 ^ 27
+
+      sum : ℕ
+      sum = best / 2 ^ 26 % 2 ^ 27
+
+      main : ℕ
+      main = best % 2 ^ 26
+
+      parts : pairKey shared sum main ≡ best
+      parts = omega arith
+
+      go : (b : Bool) → ltb x (best % 2 ^ 26) ≡ b → (standbyKey n m < boundFor best x) ↔ (pairKey n (x + m) x < best)
+      go true e =
+          let h = ltb-true x (best % 2 ^ 26) e in
+          rw (e, boundFor) (rw parts at (against shared sum main (sum + 1) (omega arith) (omega arith) (omega arith) (λ l. omega arith, λ l. omega arith)))
+      go false e =
+          let h = ltb-false x (best % 2 ^ 26) e in
+          rw (e, boundFor) (rw parts at (against shared sum main sum (omega arith) (omega arith) (omega arith) (λ l. omega arith, λ l. omega arith)))
+
+  -- two standbys of one main compare as the pairs that they make
+  pub pairs-better : (n′ m′ : ℕ) → m′ < 2 ^ 26 → (standbyKey n′ m′ < standbyKey n m) ↔ (pairKey n′ (x + m′) x < pairKey n (x + m) x)
+  unfolding standbyKey pairKey
+  pairs-better n′ m′ h = (λ l. omega arith, λ l. omega arith)

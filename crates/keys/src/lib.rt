@@ -1,0 +1,53 @@
+// The judgement of pairs, and of the standbys of one main, as one number.
+ghost use mathlib.Core.Path.{_≡_};
+ghost use Prim.Native.Nat.{_+_, _*_, _-_, _%_, _≤_, _<_, _^_};
+ghost use Rattle.problem.specs.Table.{mostReach};
+ghost use Rattle.keys.specs.Keys.{standbyKey, boundFor, pairOf};
+
+const STANDBY_UNIT: u64 = 4294967296;
+
+const TOTAL_UNIT: u64 = 67108864;
+
+const TOTAL_LIMIT: u64 = 134217728;
+
+// The key of a standby.
+pub fn standby_key(shared: u64, metres: u64) -> u64
+    requires { ⌜ (shared ≤ 2048) × (metres < 2 ^ 34) ⌝ }
+    ensures { λ r. ⌜ r ≡ standbyKey shared metres ⌝ }
+{
+    shared * STANDBY_UNIT + metres
+}
+
+// The key of a standby as long as what is left of `top` metres.
+fn key_below(shared: u64, top: u64, metres: u64) -> u64
+    requires { ⌜ (shared ≤ 2048) × (top < 2 ^ 34) ⌝ }
+    ensures { λ r. ⌜ r ≡ standbyKey shared (top - metres) ⌝ }
+{
+    if top < metres {
+        return standby_key(shared, 0);
+    }
+    standby_key(shared, top - metres)
+}
+
+// What the key of a standby must stay below so that a main of so many metres makes a better pair than the best.
+pub fn bound_for(best: u64, metres: u64) -> u64
+    ensures { λ r. ⌜ r ≡ boundFor best metres ⌝ }
+{
+    let high = best / TOTAL_UNIT;
+    let shared = high / TOTAL_LIMIT;
+    let total = high % TOTAL_LIMIT;
+    if metres < best % TOTAL_UNIT {
+        return key_below(shared, total + 1, metres);
+    }
+    key_below(shared, total, metres)
+}
+
+// The key of the pair that a main of so many metres makes with a standby of that key.
+pub fn pair_of(metres: u64, key: u64) -> u64
+    requires { ⌜ (metres ≤ mostReach) × (key < 65 * 2 ^ 32) × (key % 2 ^ 32 ≤ mostReach) ⌝ }
+    ensures { λ r. ⌜ r ≡ pairOf metres key ⌝ }
+{
+    let shared = key / STANDBY_UNIT;
+    let total = metres + key % STANDBY_UNIT;
+    (shared * TOTAL_LIMIT + total) * TOTAL_UNIT + metres
+}
