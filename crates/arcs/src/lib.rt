@@ -9,6 +9,8 @@ ghost use Rattle.problem.specs.Routes.{arcAt, opens};
 
 pub const LAST_NODE: u8 = 31;
 
+pub const NODES: usize = LAST_NODE as usize + 1;
+
 pub const MOST_ARC_METRES: u32 = 2000000;
 
 // Numbers from their bytes, little-endian; of eight bytes, from the two halves.

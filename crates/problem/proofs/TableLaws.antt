@@ -7,7 +7,7 @@ use native.Mathlib.Nat.{not-suc-le-zero, le-of-suc-le-suc}
 use native.Mathlib.Numerals.{add-one}
 use native.Mathlib.Omega.{arith}
 use lib.Dec.{eqb, ltb}
-use lib.ListN.{length, getD, take, drop}
+use lib.ListN.{length, take, drop}
 use lib.Seq.{drop-cons, drop-drop, drop-length}
 use borrow.Author.Tests.{ltb-false, eqb-true, eqb-false}
 use Rattle.laws.specs.Choosing.{if_then_else_}
@@ -25,6 +25,9 @@ length-first (suc n) table = ap suc (length-first n (drop 16 table))
 pub arcs-length : (table : List ℕ) → length (arcsOf table) ≡ length table / 16
 unfolding arcsOf
 arcs-length table = length-first (length table / 16) table
+
+pub arcs-inside : (table : List ℕ) (k : ℕ) → k < length table / 16 → k < length (arcsOf table)
+arcs-inside table k h = omega (arith, arcs-length table)
 
 -- arc k stands at 16 times k
 first-at : (n k : ℕ) (table : List ℕ) → k < n → arcAt (firstArcs n table) k ≡ arcOf (take 16 (drop (16 * k) table))

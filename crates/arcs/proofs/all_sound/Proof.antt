@@ -2,14 +2,14 @@
 -- Assumes nothing.
 use mathlib.Core.Path.{_≡_, refl, sym, ap, _∙_}
 use mathlib.Core.List.{List}
-use Prim.Native.Nat.{ℕ, _/_, _-_, _≤_, _<_}
+use Prim.Native.Nat.{ℕ, _-_, _≤_}
 use native.Mathlib.Omega.{arith}
 use borrow.Author.Needs.{needs}
 use borrow.Author.Tests.{not-true, not-false}
 use lib.ListN.{drop, length}
 use Rattle.problem.specs.Table.{arcsOf, faultOf, isSound, allSound}
 use Rattle.problem.specs.Routes.{arcAt}
-use Rattle.problem.proofs.TableLaws.{arcs-length, sound-end, sound-out, sound-on}
+use Rattle.problem.proofs.TableLaws.{arcs-length, arcs-inside, sound-end, sound-out, sound-on}
 use Rattle.arcs.proofs.all_sound.Statement.{statement}
 use Rattle.arcs.proofs.all_sound.Tie as tie
 
@@ -22,9 +22,6 @@ abbrev μ-loop : tie.MeasureT-loop
 abbrev table : tie.At-loop Inv-loop μ-loop → List ℕ
 table c = c .before .before .args .table .now
 
-in-table : (t : List ℕ) (k : ℕ) → k < length t / 16 → k < length (arcsOf t)
-in-table t k h = omega (arith, arcs-length t)
-
 -- what the calls answer
 answered : (c : tie.After-is-sound Inv-loop μ-loop)
     → isSound (faultOf (arcAt (arcsOf (table (c .before .before .before .before))) (c .before .before .before .before .loop .k))) ≡ c .is-sound .result
@@ -33,12 +30,12 @@ answered c = sym (c .is-sound .ensures ∙ ap isSound (c .before .fault .ensures
 faulty : tie.Need-returns Inv-loop μ-loop
 faulty c =
     let l = c .before .before .before .before .before in
-    sym (sound-out _ _ (in-table (table l) (l .loop .k) (omega arith)) (answered (c .before) ∙ not-true _ (c .if1 .taken))) ∙ l .loop .inv .1
+    sym (sound-out _ _ (arcs-inside (table l) (l .loop .k) (omega arith)) (answered (c .before) ∙ not-true _ (c .if1 .taken))) ∙ l .loop .inv .1
 
 loop-again : tie.Need-loop-again Inv-loop μ-loop
 loop-again c =
     let l = c .before .before .before .before .before in
-    (omega arith, sym (sound-on _ _ (in-table (table l) (l .loop .k) (omega arith)) (answered (c .before) ∙ not-false _ (c .if1 .left))) ∙ l .loop .inv .1)
+    (omega arith, sym (sound-on _ _ (arcs-inside (table l) (l .loop .k) (omega arith)) (answered (c .before) ∙ not-false _ (c .if1 .left))) ∙ l .loop .inv .1)
 
 all : tie.Need-returns-2 Inv-loop μ-loop
 all c =

@@ -1,0 +1,44 @@
+-- What the side table says of each node. Assumes nothing.
+use mathlib.Core.Path.{_≡_}
+use mathlib.Core.Bool.{Bool, true, false}
+use mathlib.Core.List.{List}
+use Prim.Native.Nat.{ℕ, _≤_}
+use lib.ListN.{getD}
+use Rattle.problem.specs.declared.Arc.{Arc}
+use Rattle.problem.specs.Table.{mostReach}
+use Rattle.problem.specs.Routes.{metresOf, risksOf}
+use Rattle.problem.proofs.WayLaws.{FreeWay}
+use Rattle.side.specs.declared.Side.{Side}
+
+-- v's entry
+abbrev pub reachedAt : Side → ℕ → Bool
+reachedAt s v = getD (s .reached) v false
+
+abbrev pub metresAt : Side → ℕ → ℕ
+metresAt s v = getD (s .metres) v 0
+
+abbrev pub risksAt : Side → ℕ → ℕ
+risksAt s v = getD (s .risks) v 0
+
+module _ (arcs : List Arc) (terminal banned : ℕ) where
+  -- a way from v to the terminal over free arcs, of the given length and risks
+  pub record Reaches (v metres risks : ℕ) : Type 0 where
+    pub list : List ℕ
+    pub free-way : FreeWay arcs banned terminal v list
+    pub same-metres : metresOf arcs list ≡ metres
+    pub same-risks : risksOf arcs list ≡ risks
+
+  -- a reached node's entry is that of a free way; any other holds 0; the terminal is reached with 0 metres
+  pub record Entries (s : Side) : Type 0 where
+    pub reaches : (v : ℕ) → reachedAt s v ≡ true → Reaches v (metresAt s v) (risksAt s v)
+    pub no-metres : (v : ℕ) → reachedAt s v ≡ false → metresAt s v ≡ 0
+    pub no-risks : (v : ℕ) → reachedAt s v ≡ false → risksAt s v ≡ 0
+    pub terminal-reached : reachedAt s terminal ≡ true
+    pub terminal-metres : metresAt s terminal ≡ 0
+
+  -- the table itself: besides, no free way is shorter than its node's entry, and there is none where a node is not reached
+  pub record SideTable (s : Side) : Type 0 where
+    pub entries : Entries s
+    pub least : (v : ℕ) (ks : List ℕ) → FreeWay arcs banned terminal v ks → metresAt s v ≤ metresOf arcs ks
+    pub none : (v : ℕ) → reachedAt s v ≡ false → (ks : List ℕ) → FreeWay arcs banned terminal v ks → ⊥
+    pub most-metres : (v : ℕ) → metresAt s v ≤ mostReach
