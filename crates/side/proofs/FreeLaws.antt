@@ -1,26 +1,21 @@
 -- Free ways, arc by arc: one arc more is free where the arc and the rest are, and only there. Assumes nothing.
 use mathlib.Core.Path.{_≡_, refl, ap}
 use mathlib.Core.List.{List, _∷_}
-use Prim.Native.Nat.{ℕ, zero, suc, _^_, _<_}
-use native.Mathlib.Nat.{pow-suc}
+use Prim.Native.Nat.{ℕ, _<_}
 use native.Mathlib.Omega.{arith}
 use lib.Bits.{bitAnd, bitOr}
 use lib.ListN.{length}
 use Rattle.laws.specs.Sets.{bit}
-use Rattle.laws.proofs.SetLaws.{bit-or, bit-and, bit-empty, bits-empty, and-within}
+use Rattle.laws.proofs.SetLaws.{bit-or, bit-and, bit-empty, bits-ext, and-within}
 use Rattle.problem.specs.declared.Arc.{Arc}
 use Rattle.problem.specs.Routes.{arcAt, risksOf, Way}
 use Rattle.problem.proofs.WayLaws.{FreeWay}
 
 -- ---- sets with nothing in common
 
-pow-above : (n : ℕ) → n < 2 ^ n
-pow-above zero = omega arith
-pow-above (suc n) = rw pow-suc (omega (arith, pow-above n))
-
 pub free-union : (a b c : ℕ) → bitAnd a c ≡ 0 → bitAnd b c ≡ 0 → bitAnd (bitOr a b) c ≡ 0
 free-union a b c e f =
-    bits-empty (bitAnd (bitOr a b) c) (bitAnd (bitOr a b) c) (pow-above (bitAnd (bitOr a b) c))
+    bits-ext (bitAnd (bitOr a b) c) 0
     (λ r. rw (bit-and, bit-or) (omega (arith, rw bit-and at (ap (λ (s : ℕ). bit s r) e), rw bit-and at (ap (λ (s : ℕ). bit s r) f), bit-empty r)))
 
 pub free-first : (a b c : ℕ) → bitAnd (bitOr a b) c ≡ 0 → bitAnd a c ≡ 0
