@@ -1,0 +1,31 @@
+-- A number's bytes, one by one: the next is what is left modulo 256. Assumes nothing.
+use Prim.Native.Nat.{ℕ, zero, suc, _+_, _-_, _/_, _%_, _<_}
+use mathlib.Core.List.{_∷_}
+use mathlib.Core.Path.{_≡_, refl, sym, ap, _∙_}
+use native.Mathlib.Numerals.{add-one}
+use native.Mathlib.Omega.{arith}
+use lib.ListN.{length, getD, drop}
+use lib.Seq.{drop-cons}
+use Rattle.problem.specs.Table.{bytesOf}
+
+pub bytes-length : (n x : ℕ) → length (bytesOf n x) ≡ n
+unfolding bytesOf
+bytes-length zero x = refl
+bytes-length (suc n) x = ap suc (bytes-length n (x / 256))
+
+-- from byte i on the n bytes of x are the bytes of what is left
+module _ (n x i left : ℕ) (inside : i < n) (rest : drop i (bytesOf n x) ≡ bytesOf (n - i) left) where
+  split : getD (bytesOf n x) i 0 ∷ drop (i + 1) (bytesOf n x) ≡ left % 256 ∷ bytesOf (n - (i + 1)) (left / 256)
+  unfolding bytesOf
+  split =
+      let more : n - i ≡ suc (n - (i + 1)) = omega arith in
+      ap (λ (k : ℕ). getD (bytesOf n x) i 0 ∷ drop k (bytesOf n x)) (add-one i)
+      ∙ sym (drop-cons (bytesOf n x) i 0 (rw bytes-length inside))
+      ∙ rest
+      ∙ ap (λ (k : ℕ). bytesOf k left) more
+
+  pub byte-next : left % 256 ≡ getD (bytesOf n x) i 0
+  byte-next = cc split
+
+  pub byte-rest : drop (i + 1) (bytesOf n x) ≡ bytesOf (n - (i + 1)) (left / 256)
+  byte-rest = cc split
