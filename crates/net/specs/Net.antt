@@ -37,8 +37,11 @@ terminalAt = 705
 abbrev pub reachAt : ℕ
 reachAt = 706
 
+abbrev pub sourceAt : ℕ
+sourceAt = 707
+
 abbrev pub netSize : ℕ
-netSize = 707
+netSize = 708
 
 abbrev pub wordAt : List ℕ → ℕ → ℕ
 wordAt net i = getD net i 0
@@ -59,6 +62,8 @@ pub record Chained (arcs : List Arc) (terminal : ℕ) (net : List ℕ) : Type 0 
   pub few : length arcs ≤ 128
   pub sound : allSound arcs ≡ true
   pub terminal-node : terminal ≤ lastNode
+  pub source-node : wordAt net sourceAt ≤ lastNode
+  pub ends-differ : wordAt net sourceAt ≡ terminal → ⊥
   pub reach-range : wordAt net reachAt ≤ mostReach
   -- the chain of each node
   pub next : (k : ℕ) → k < length arcs → Next arcs (arcAt arcs k .tail) (k + 1) (wordAt net (nextFrom + k))

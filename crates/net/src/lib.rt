@@ -4,7 +4,7 @@ ghost use Prim.Native.Nat.{_+_, _≤_, _<_, _^_};
 ghost use lib.ListN.{length};
 ghost use Rattle.problem.specs.Table.{lastNode, mostArcMetres, mostReach};
 ghost use Rattle.problem.specs.Routes.{arcAt};
-ghost use Rattle.net.specs.Net.{nextFrom, firstFrom, lowerFrom, terminalAt, reachAt, wordAt, arcsIn, Net};
+ghost use Rattle.net.specs.Net.{nextFrom, firstFrom, lowerFrom, terminalAt, reachAt, sourceAt, wordAt, arcsIn, Net};
 
 // Where the words of each kind begin.
 const METRES_FROM: u64 = 128;
@@ -24,6 +24,8 @@ const ARC_COUNT_AT: u64 = 704;
 const TERMINAL_AT: u64 = 705;
 
 const REACH_AT: u64 = 706;
+
+const SOURCE_AT: u64 = 707;
 
 // The word at a place.
 fn word(net: &[u64], at: u64) -> u64
@@ -98,4 +100,11 @@ pub fn reach(net: &[u64]) -> u64
     ensures { λ r. ⌜ (r ≡ wordAt (now (net .entry)) reachAt) × (r ≤ mostReach) ⌝ }
 {
     word(net, REACH_AT)
+}
+
+pub fn source(net: &[u64]) -> u64
+    requires { ⌜ Net (now net) ⌝ }
+    ensures { λ r. ⌜ (r ≡ wordAt (now (net .entry)) sourceAt) × (r ≤ lastNode) ⌝ }
+{
+    word(net, SOURCE_AT)
 }

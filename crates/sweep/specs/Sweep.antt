@@ -1,0 +1,40 @@
+-- A sweep: every route of a window of lengths, met in any order, is tried as a main and brings a tally up to date. Assumes nothing.
+use Prim.Native.Nat.{ℕ, _+_, _≤_, _<_, min, max}
+use mathlib.Core.Bool.{Bool, true, false}
+use mathlib.Core.List.{List, foldl, List·Memᴰ}
+use mathlib.Core.Path.{_≡_}
+use lib.Bits.{bitAnd, bitOr}
+use lib.Count.{onesIn}
+use lib.Dec.{leb, ltb}
+use Rattle.laws.specs.Choosing.{if_then_else_}
+use Rattle.laws.specs.Sets.{with}
+use Rattle.problem.specs.declared.Arc.{Arc}
+use Rattle.problem.specs.Table.{mostArcs}
+use Rattle.problem.specs.Routes.{metresOf, risksOf, grow}
+use Rattle.keys.specs.Keys.{pairKey}
+use Rattle.sweep.specs.declared.Tally.{Tally}
+use Rattle.sweep.specs.declared.Window.{Window}
+
+-- the best pair's key after one more standby for a main of so many metres and these risks; past the reach it is none
+unfoldable pub offerPair : List Arc → ℕ → ℕ → ℕ → ℕ → List ℕ → ℕ
+offerPair arcs reach metres risks best ks =
+    if leb (metresOf arcs ks) reach then min best (pairKey (onesIn 64 (bitAnd risks (risksOf arcs ks))) (metres + metresOf arcs ks) metres) else best
+
+module _ (arcs : List Arc) (source terminal reach : ℕ) where
+  -- after every standby
+  unfoldable pub bestWith : ℕ → ℕ → ℕ → ℕ
+  bestWith metres risks best = foldl (offerPair arcs reach metres risks) best (grow arcs terminal mostArcs (with 0 source) source)
+
+  -- the tally after one more main; past the cap it only says that there was one more
+  unfoldable pub taken : ℕ → ℕ → ℕ → Tally → Tally
+  taken cap metres risks t =
+      if t .over then t
+      else (if leb cap (t .ranked) then record { ranked = t .ranked; last = t .last; best = t .best; over = true }
+      else record { ranked = t .ranked + 1; last = max (t .last) metres; best = bestWith metres risks (t .best); over = false })
+
+  -- the tally after a route was met: `metres` and `risks` lie behind, ks ahead; it is a main if its length lies in the window
+  unfoldable pub meet : Window → ℕ → ℕ → Tally → List ℕ → Tally
+  meet w metres risks t ks =
+      if ltb (metres + metresOf arcs ks) (w .lo) then t
+      else (if ltb (w .hi) (metres + metresOf arcs ks) then t
+      else taken (w .cap) (metres + metresOf arcs ks) (bitOr risks (risksOf arcs ks)) t)
