@@ -126,6 +126,11 @@ unfolding unmet
 unmet-le zero s = le-refl 0
 unmet-le (suc n) s = omega (arith, unmet-le n s)
 
+pub unmet-empty : (n : ℕ) → unmet n 0 ≡ n
+unfolding unmet
+unmet-empty zero = refl
+unmet-empty (suc n) = rw (bit-empty, unmet-empty n) (omega arith)
+
 unmet-above : (n h s : ℕ) → n ≤ h → unmet n (with s h) ≡ unmet n s
 unfolding unmet digit
 unmet-above zero h s l = refl

@@ -13,8 +13,9 @@ use borrow.Author.Tests.{eq-eqb, ne-eqb}
 use Rattle.laws.specs.Sets.{bit, with, unmet}
 use Rattle.laws.proofs.SetLaws.{unmet-none, unmet-with}
 use Rattle.problem.specs.declared.Arc.{Arc}
+use Rattle.problem.specs.Table.{mostArcs}
 use Rattle.problem.specs.Routes.{arcAt, Way, opens, sprout, grow}
-use Rattle.problem.proofs.RouteLaws.{opens-new, grow-out, grown-way}
+use Rattle.problem.proofs.RouteLaws.{opens-new, grow-out, grown-way, unmet-source}
 
 module _ {S : Type 0} where
   -- a visitor that changes nothing anywhere in a list may pass it over
@@ -108,3 +109,8 @@ module _ (arcs : List Arc) (terminal : ℕ) (low : (k : ℕ) → k < length arcs
           rw (e, grow)
           (sprout-same (grow arcs terminal (suc n)) (grow arcs terminal n) met at 0 arcs
           (λ i b o. ih (with met (arcAt arcs i .head)) (arcAt arcs i .head) (omega (arith, unmet-with 32 (arcAt arcs i .head) met (low i b) (opens-new met at (arcAt arcs i) o)))))
+
+  -- from the source
+  pub grow-source : (source : ℕ) → source < 32 → grow arcs terminal (suc (unmet 32 (with 0 source))) (with 0 source) source ≡ grow arcs terminal mostArcs (with 0 source) source
+  grow-source source node =
+      ap (λ (n : ℕ). grow arcs terminal (suc n) (with 0 source) source) (unmet-source source node) ∙ grow-enough mostArcs (with 0 source) source (omega (arith, unmet-source source node))

@@ -12,7 +12,7 @@ use borrow.Author.Tests.{eqb-true, eqb-false, eq-eqb, ne-eqb}
 use Rattle.laws.specs.Choosing.{Pairwise, Distinct}
 use Rattle.laws.specs.Sets.{bit, with, unmet}
 use Rattle.laws.proofs.ListLaws.{pairwise-append, pairwise-map, pairwise-head, pairwise-tail}
-use Rattle.laws.proofs.SetLaws.{digit, bit-with, bit-single, bit-empty, unmet-le, unmet-with}
+use Rattle.laws.proofs.SetLaws.{digit, bit-with, bit-single, bit-empty, unmet-empty, unmet-with}
 use Rattle.problem.specs.declared.Arc.{Arc}
 use Rattle.problem.specs.Routes.{arcAt, nodesFrom, Way, IsRoute, metresOf, opens, sprout, grow}
 
@@ -226,6 +226,6 @@ module _ (arcs : List Arc) (terminal : ℕ) where
     λ p. way-grown (p .0) (p .1) (λ h m ne. rw (bit-single, ne-eqb h source (λ q. ne (sym q)))),
   )
 
--- at most 31 nodes besides the source
-pub unmet-source : (source : ℕ) → source < 32 → unmet 32 (with 0 source) ≤ 31
-unmet-source source low = omega (arith, unmet-with 32 source 0 low (bit-empty source), unmet-le 32 0)
+-- 31 nodes besides the source
+pub unmet-source : (source : ℕ) → source < 32 → unmet 32 (with 0 source) ≡ 31
+unmet-source source low = omega (arith, unmet-with 32 source 0 low (bit-empty source), unmet-empty 32)
