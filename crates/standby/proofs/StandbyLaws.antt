@@ -30,13 +30,6 @@ use Rattle.standby.specs.Standby.{offer, Looked}
 shared-mono : (main risks more : ℕ) → onesIn 64 (bitAnd main risks) ≤ onesIn 64 (bitAnd main (bitOr risks more))
 shared-mono main risks more = ones-mono 64 (bitAnd main risks) (bitAnd main (bitOr risks more)) (λ r. simp (bit-and, bit-or) (omega arith))
 
--- what a test of membership said, at the arc's own head
-pub has-met : (met : ℕ) {h a : ℕ} {b : Bool} → h ≡ a → b ≡ eqb (bit met h) 1 → b ≡ true → bit met a ≡ 1
-has-met met {h} e f t = ap (bit met) (sym e) ∙ eqb-true (bit met h) 1 (sym f ∙ t)
-
-pub has-not-met : (met : ℕ) {h a : ℕ} {b : Bool} → h ≡ a → b ≡ eqb (bit met h) 1 → b ≡ false → bit met a ≡ 0
-has-not-met met {h} e f t = omega (arith, ap (bit met) e, eqb-false (bit met h) 1 (sym f ∙ t), bit-le-one met h)
-
 -- the key that was made from what was read
 pub key-read : (main risks : ℕ) {key shared word r to : ℕ} (m : ℕ) → key ≡ standbyKey shared to → shared ≡ onesIn 64 (bitAnd main (bitOr risks word)) → word ≡ r → to ≡ m
     → key ≡ standbyKey (onesIn 64 (bitAnd main (bitOr risks r))) m

@@ -35,12 +35,14 @@ module _ (arcs : List Arc) (source terminal reach : ℕ) where
       else (if leb cap (t .ranked) then record { ranked = t .ranked; last = t .last; best = t .best; over = true }
       else record { ranked = t .ranked + 1; last = max (t .last) metres; best = bestWith metres risks (t .best); over = false })
 
+  -- the tally after a route of so many metres ended, no longer than the window's end
+  unfoldable pub ended : Window → ℕ → ℕ → Tally → Tally
+  ended w metres risks t = if ltb metres (w .lo) then t else taken (w .cap) metres risks t
+
   -- the tally after a route was met: `metres` and `risks` lie behind, ks ahead; it is a main if its length lies in the window
   unfoldable pub meet : Window → ℕ → ℕ → Tally → List ℕ → Tally
   meet w metres risks t ks =
-      if ltb (metres + metresOf arcs ks) (w .lo) then t
-      else (if ltb (w .hi) (metres + metresOf arcs ks) then t
-      else taken (w .cap) (metres + metresOf arcs ks) (bitOr risks (risksOf arcs ks)) t)
+      if ltb (w .hi) (metres + metresOf arcs ks) then t else ended w (metres + metresOf arcs ks) (bitOr risks (risksOf arcs ks)) t
 
 -- what arc a, which leads on by at least `lower` metres, is to a sweep up to hi that has `metres` and `risks` behind it and has met `met`
 pub data Seen (terminal hi lower met metres risks : ℕ) (a : Arc) (l : Leg) : Type 0 where

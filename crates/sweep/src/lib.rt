@@ -2,12 +2,12 @@
 ghost use mathlib.Core.Path.{_≡_};
 ghost use mathlib.Core.Bool.{false};
 ghost use mathlib.Core.List.{foldl};
-ghost use Prim.Native.Nat.{suc, _+_, _<_, _≤_, _^_, max};
+ghost use Prim.Native.Nat.{suc, _+_, _<_, _≤_, _^_, min, max};
 ghost use lib.ListN.{length};
 ghost use Rattle.problem.specs.Table.{mostReach};
 ghost use Rattle.problem.specs.Routes.{arcAt};
 ghost use Rattle.net.specs.Net.{Net, arcsIn, wordAt, nextFrom, lowerFrom, terminalAt, reachAt, sourceAt};
-ghost use Rattle.sweep.specs.Sweep.{bestWith, taken, Seen, Ready, Sweeps};
+ghost use Rattle.sweep.specs.Sweep.{bestWith, taken, ended, Seen, Ready, Sweeps};
 
 // The routes of lo to hi metres are mains; after `cap` of them in all, the sweep gives up.
 pub struct Window {
@@ -90,4 +90,116 @@ pub fn take_main(net: &[u64], cap: u64, metres: u64, risks: u64, t: Tally) -> Ta
         best: best,
         over: false,
     }
+}
+
+// The tally after a route of so many metres ended within the window's end.
+fn end_route(net: &[u64], w: Window, metres: u64, risks: u64, t: Tally) -> Tally
+    requires { ⌜ Net (now net) × (metres ≤ mostReach) ⌝ }
+    ensures { λ r. ⌜ r ≡ ended (arcsIn (now (net .entry))) (wordAt (now (net .entry)) sourceAt) (wordAt (now (net .entry)) terminalAt) (wordAt (now (net .entry)) reachAt) w metres risks t ⌝ }
+{
+    if metres < w.lo {
+        return t;
+    }
+    take_main(net, w.cap, metres, risks, t)
+}
+
+fn past(kind: u8, next: u64, to: u64) -> Leg
+    ensures { λ r. ⌜ (r .kind ≡ kind) × (r .next ≡ next) × (r .to ≡ to) ⌝ }
+{
+    Leg {
+        kind: kind,
+        next: next,
+        head: 0,
+        met: 0,
+        metres: 0,
+        risks: 0,
+        to: to,
+    }
+}
+
+// What arc i is to a sweep up to hi.
+fn look(net: &[u64], i: u64, met: u64, metres: u64, risks: u64, hi: u64) -> Leg
+    requires { ⌜ Net (now net) × (i < length (arcsIn (now net))) × (metres ≤ mostReach) ⌝ }
+    ensures next { λ r. ⌜ r .next ≡ wordAt (now (net .entry)) (nextFrom + i) ⌝ }
+    ensures seen { λ r. ⌜ Seen (wordAt (now (net .entry)) terminalAt) hi (wordAt (now (net .entry)) (lowerFrom + arcAt (arcsIn (now (net .entry))) i .head)) met metres risks (arcAt (arcsIn (now (net .entry))) i) r ⌝ }
+{
+    let next = net::next(net, i);
+    let head = net::head(net, i);
+    if sets::has(met, head as u8) {
+        return past(0, next, 0);
+    }
+    let m = metres + net::metres(net, i);
+    let to = m + net::lower(net, head);
+    if hi < to {
+        return past(1, next, to);
+    }
+    let r = risks | net::risks(net, i);
+    if head == net::terminal(net) {
+        return Leg {
+            kind: 2,
+            next: next,
+            head: head,
+            met: met,
+            metres: m,
+            risks: r,
+            to: to,
+        };
+    }
+    Leg {
+        kind: 3,
+        next: next,
+        head: head,
+        met: sets::with(met, head as u8),
+        metres: m,
+        risks: r,
+        to: to,
+    }
+}
+
+fn cut_at(s: Swept, to: u64) -> Swept
+    ensures { λ r. ⌜ (r .tally ≡ s .tally) × (r .cut ≡ min (s .cut) to) ⌝ }
+{
+    let t = s.tally;
+    if s.cut < to {
+        return s;
+    }
+    Swept { tally: t, cut: to }
+}
+
+fn meet_route(net: &[u64], w: Window, metres: u64, risks: u64, s: Swept) -> Swept
+    requires { ⌜ Net (now net) × (metres ≤ mostReach) ⌝ }
+    ensures { λ r. ⌜ (r .tally ≡ ended (arcsIn (now (net .entry))) (wordAt (now (net .entry)) sourceAt) (wordAt (now (net .entry)) terminalAt) (wordAt (now (net .entry)) reachAt) w metres risks (s .tally)) × (r .cut ≡ s .cut) ⌝ }
+{
+    let t = s.tally;
+    let u = end_route(net, w, metres, risks, t);
+    Swept {
+        tally: u,
+        cut: s.cut,
+    }
+}
+
+// What all routes that go on from `at`, with `metres` and `risks` behind them, make of the tally; it stores no route, and ends early past the cap.
+pub fn sweep(net: &[u64], w: Window, at: u64, met: u64, metres: u64, risks: u64, s: Swept) -> Swept
+    requires { ⌜ Ready (now net) (w .hi) at metres ⌝ }
+    ensures { λ r. ⌜ Sweeps (now (net .entry)) w at met metres risks s r ⌝ }
+{
+    let n = net::arc_count(net);
+    let mut r = s;
+    let mut i = net::first(net, at);
+    while i < n {
+        let t = r.tally;
+        if t.over {
+            return r;
+        }
+        let l = look(net, i, met, metres, risks, w.hi);
+        i = l.next;
+        if l.kind == 1 {
+            r = cut_at(r, l.to);
+        } else if l.kind == 2 {
+            r = meet_route(net, w, l.metres, l.risks, r);
+        } else if l.kind == 3 {
+            r = sweep(net, w, l.head, l.met, l.metres, l.risks, r);
+        }
+    }
+    r
 }

@@ -9,7 +9,8 @@ use Rattle.laws.specs.Sets.{with}
 use Rattle.problem.specs.Routes.{arcAt}
 use Rattle.net.specs.Net.{arcsIn, wordAt, lowerFrom, terminalAt}
 use Rattle.standby.specs.Standby.{Looked}
-use Rattle.standby.proofs.StandbyLaws.{has-met, has-not-met, key-read}
+use Rattle.net.proofs.SearchLaws.{has-met, has-not-met}
+use Rattle.standby.proofs.StandbyLaws.{key-read}
 use Rattle.standby.proofs.look.Statement.{statement}
 use Rattle.standby.proofs.look.Tie as tie
 
