@@ -1,2 +1,3 @@
 pub mod TryLaws
-pub mod SweepLaws
+pub mod FoldLaws
+pub mod StepLaws
