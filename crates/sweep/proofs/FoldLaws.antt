@@ -3,9 +3,11 @@ use mathlib.Core.Path.{_≡_, refl, sym, ap, ap₂, _∙_}
 use mathlib.Core.Logic.{_⊎_, inl, inr, _↔_}
 use mathlib.Core.Bool.{Bool, true, false, true≢false}
 use mathlib.Core.List.{List, [], _∷_, _++_, foldl, List·Memᴰ, List·Memᴰ·head, List·Memᴰ·tail, List·Memᴰ·not-nil, List·Memᴰ·cases-cons}
-use Prim.Native.Nat.{ℕ, zero, suc, _+_, _-_, _≤_, _<_}
+use Prim.Native.Nat.{ℕ, _+_, _≤_, min, max}
 use native.Mathlib.Omega.{arith}
+use lib.Dec.{ltb}
 use lib.ListN.{length}
+use borrow.Author.Tests.{ltb-true, ltb-false}
 use Rattle.laws.specs.Choosing.{if_then_else_, keep, insertBy, sortBy, Pairwise}
 use Rattle.laws.proofs.ListLaws.{pairwise-head, pairwise-tail}
 use Rattle.laws.proofs.OrderLaws.{Weak}
@@ -66,9 +68,15 @@ module _ {A : Type 0} where
     count-sort [] = refl
     count-sort (a ∷ l) = omega (arith, count-insert a (sortBy before l), count-cons f a l, count-sort l)
 
-  -- ---- lists with the same members
+  -- ---- lists in order
 
-  -- in order, they are the same list
+  -- what holds of two members, where R does
+  pub pairwise-members : {R S : A → A → Type 0} {l : List A} → ((a b : A) → List·Memᴰ a l → List·Memᴰ b l → R a b → S a b) → Pairwise R l → Pairwise S l
+  pairwise-members f Pairwise.none = Pairwise.none
+  pairwise-members f (Pairwise.one {a = a} g p) =
+      Pairwise.one (λ b m. f a b (List·Memᴰ·head refl) (List·Memᴰ·tail m) (g b m)) (pairwise-members (λ x y m n. f x y (List·Memᴰ·tail m) (List·Memᴰ·tail n)) p)
+
+  -- with the same members they are the same list
   module _ (before : A → A → Bool) (w : Weak before) where
     pub strict-same : {l r : List A} → Strict before l → Strict before r → ((x : A) → List·Memᴰ x l ↔ List·Memᴰ x r) → l ≡ r
     strict-same Pairwise.none Pairwise.none same = refl
@@ -132,6 +140,21 @@ pub record FirstOf (R : ℕ → ℕ → Type 0) (b : ℕ) (P : ℕ → Type 0) (
   pub from-start : R x b
   pub from-each : (n : ℕ) → P n → R x n
   pub is-one : (x ≡ b) ⊎ P x
+
+-- of two numbers
+pub min-first : (b k : ℕ) → FirstOf _≤_ b (λ n. n ≡ k) (min b k)
+min-first b k = record { from-start = omega arith; from-each = λ n e. omega arith; is-one = go (ltb k b) refl }
+  where
+    go : (s : Bool) → ltb k b ≡ s → (min b k ≡ b) ⊎ (min b k ≡ k)
+    go true e = inr (omega (arith, ltb-true))
+    go false e = inl (omega (arith, ltb-false))
+
+pub max-first : (b k : ℕ) → FirstOf AtLeast b (λ n. n ≡ k) (max b k)
+max-first b k = record { from-start = omega arith; from-each = λ n e. omega arith; is-one = go (ltb b k) refl }
+  where
+    go : (s : Bool) → ltb b k ≡ s → (max b k ≡ b) ⊎ (max b k ≡ k)
+    go true e = inr (omega (arith, ltb-true))
+    go false e = inl (omega (arith, ltb-false))
 
 -- one of the list gives the number
 pub record Given {A : Type 0} (Q : A → ℕ → Type 0) (l : List A) (n : ℕ) : Type 0 where
