@@ -2,14 +2,13 @@
 use mathlib.Core.Path.{_≡_, refl, sym, ap, ap₂, _∙_}
 use mathlib.Core.Logic.{_⊎_, inl, inr, _↔_}
 use mathlib.Core.Bool.{Bool, true, false, true≢false}
-use mathlib.Core.List.{List, [], _∷_, _++_, foldl, List·Memᴰ, List·Memᴰ·head, List·Memᴰ·tail, List·Memᴰ·not-nil, List·Memᴰ·cases-cons}
+use mathlib.Core.List.{List, [], _∷_, foldl, List·Memᴰ, List·Memᴰ·head, List·Memᴰ·tail, List·Memᴰ·not-nil, List·Memᴰ·cases-cons}
 use Prim.Native.Nat.{ℕ, _+_, _≤_, min, max}
 use native.Mathlib.Omega.{arith}
 use lib.Dec.{ltb}
 use lib.ListN.{length}
 use borrow.Author.Tests.{ltb-true, ltb-false}
 use Rattle.laws.specs.Choosing.{if_then_else_, keep, insertBy, sortBy, Pairwise}
-use Rattle.laws.proofs.ListLaws.{pairwise-head, pairwise-tail}
 use Rattle.laws.proofs.OrderLaws.{Weak}
 use Rattle.laws.proofs.SortLaws.{Strict}
 use Rattle.laws.proofs.SetLaws.{digit}
@@ -181,6 +180,11 @@ module _ {R : ℕ → ℕ → Type 0} (order : Order R) where
       go {u} h (inl e) = rw e (h .from-start)
       go {u} {v} h (inr p) = h .from-each v p
 
+  -- only the members count, and not their order
+  pub first-members : {A : Type 0} {Q : A → ℕ → Type 0} {b x y : ℕ} {l r : List A} → ((a : A) → List·Memᴰ a l ↔ List·Memᴰ a r)
+      → FirstOf R b (Given Q l) x → FirstOf R b (Given Q r) y → x ≡ y
+  first-members same f g = first-unique f (first-same (λ n. (given-same (λ a. same a .1), given-same (λ a. same a .0))) g)
+
   -- where each step takes the first of what is there and what one gives, the fold takes the first of all
   module _ {A : Type 0} (Q : A → ℕ → Type 0) (step : ℕ → A → ℕ) (ok : (b : ℕ) (a : A) → FirstOf R b (Q a) (step b a)) where
     pub first-fold : (b : ℕ) (l : List A) → FirstOf R b (Given Q l) (foldl step b l)
@@ -198,8 +202,3 @@ module _ {R : ℕ → ℕ → Type 0} (order : Order R) where
             one (inr h) k = inr (given-same (λ c m. List·Memᴰ·tail m) h)
             one (inl e) (inl d) = inl (e ∙ d)
             one (inl e) (inr q) = inr (record { by = a; listed = List·Memᴰ·head refl; gives = rw e q })
-
-    -- so that only the members count, and not their order
-    pub fold-members : (b : ℕ) (l r : List A) → ((a : A) → List·Memᴰ a l ↔ List·Memᴰ a r) → foldl step b l ≡ foldl step b r
-    fold-members b l r same =
-        first-unique (first-fold b l) (first-same (λ n. (given-same (λ a. same a .1), given-same (λ a. same a .0))) (first-fold b r))

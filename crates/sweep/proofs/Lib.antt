@@ -1,3 +1,5 @@
 pub mod TryLaws
 pub mod FoldLaws
+pub mod MainLaws
+pub mod SweptLaws
 pub mod StepLaws
