@@ -11,7 +11,7 @@ use lib.ListN.{length, take, length-take}
 use borrow.Author.Tests.{leb-true, leb-false, le-leb, lt-leb, ltb-true, ltb-false, lt-ltb, le-ltb}
 use Rattle.laws.specs.Choosing.{lexBy, keep}
 use Rattle.laws.specs.Sets.{with}
-use Rattle.laws.proofs.ListLaws.{keep-in, keep-out, pairwise-append, pairwise-keep, pairwise-map}
+use Rattle.laws.proofs.ListLaws.{keep-in, keep-out, keep-none, pairwise-append, pairwise-keep, pairwise-map}
 use Rattle.laws.proofs.OrderLaws.{ltb-total, lex-lt}
 use Rattle.laws.proofs.SetLaws.{digit}
 use Rattle.laws.proofs.SortLaws.{Strict, sort-mem, keep-beginning}
@@ -152,13 +152,19 @@ module _ (arcs : List Arc) (source terminal reach : ℕ) where
 
   -- ---- a cut: no route is longer than hi and shorter than it
 
+  grown-from : {r : Route} → List·Memᴰ r routes → (ks : List ℕ) × List·Memᴰ ks (grown arcs source terminal) × (metresOf arcs ks ≡ r .metres)
+  unfolding routesFrom routeOf
+  grown-from m =
+      let o = Memᴰ·of-map (routeOf arcs) (grown arcs source terminal) (ranking-among .0 m .0) in
+      (o .0, o .1, ap (λ (s : Route). s .metres) (o .2))
+
+  -- the first window may begin at the cut
+  pub cut-none : (cut : ℕ) → ((ks : List ℕ) → List·Memᴰ ks (grown arcs source terminal) → cut ≤ metresOf arcs ks) → count (shorter cut) routes ≡ 0
+  cut-none cut f = ap length (keep-none (shorter cut) routes (λ r m. let g = grown-from m in le-ltb (r .metres) cut (omega (arith, f (g .0) (g .1), g .2))))
+
   module _ (hi cut : ℕ) (clear : (ks : List ℕ) → List·Memᴰ ks (grown arcs source terminal) → hi < metresOf arcs ks → cut ≤ metresOf arcs ks) where
     clear-route : (r : Route) → List·Memᴰ r routes → hi < r .metres → cut ≤ r .metres
-    unfolding routesFrom routeOf
-    clear-route r m =
-        let o = Memᴰ·of-map (routeOf arcs) (grown arcs source terminal) (ranking-among .0 m .0) in
-        let e : metresOf arcs (o .0) ≡ r .metres = ap (λ (s : Route). s .metres) (o .2) in
-        λ h. omega (arith, clear (o .0) (o .1) (omega arith))
+    clear-route r m h = let g = grown-from m in omega (arith, g .2, clear (g .0) (g .1) (omega (arith, g .2)))
 
     -- the next window may begin at the cut
     pub cut-count : hi < cut → count (shorter cut) routes ≡ count (within hi) routes
