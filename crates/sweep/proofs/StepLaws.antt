@@ -26,7 +26,7 @@ use Rattle.sweep.specs.declared.Tally.{Tally}
 use Rattle.sweep.specs.declared.Window.{Window}
 use Rattle.sweep.proofs.FoldLaws.{smaller, larger, first-unique}
 use Rattle.sweep.proofs.MainLaws.{mains, shorter-beginning, within-inside, window-count, window-members, window-in-order}
-use Rattle.sweep.proofs.SweptLaws.{after, last-first, best-first, after-members, after-append, swept, swept-all, swept-some, swept-cap, swept-over}
+use Rattle.sweep.proofs.SweptLaws.{after, last-first, best-first, after-members, after-append, sweptTally, swept-all, swept-some, swept-cap, swept-over}
 
 -- t is the tally of step j; where j is 0, of no step
 pub record Stepped (routes : List Route) (j : ℕ) (t : Tally) : Type 0 where
@@ -136,7 +136,7 @@ module _ (arcs : List Arc) (source terminal reach : ℕ) (low : reach ≤ mostRe
 
   -- ---- a sweep from a step
 
-  module _ (w : Window) (wide : w .lo ≤ w .hi) (near : w .hi ≤ reach) (t r : Tally) (s : Stepped routes (count (shorter (w .lo)) routes) t) (e : r ≡ swept arcs source terminal reach w t) where
+  module _ (w : Window) (wide : w .lo ≤ w .hi) (near : w .hi ≤ reach) (t r : Tally) (s : Stepped routes (count (shorter (w .lo)) routes) t) (e : r ≡ sweptTally arcs source terminal reach w t) where
     abbrev before : List Route
     before = keep (shorter (w .lo)) routes
 

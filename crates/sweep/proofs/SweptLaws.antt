@@ -148,8 +148,8 @@ module _ (arcs : List Arc) (source terminal reach : ℕ) where
 
   module _ (w : Window) where
     -- the tally after a sweep
-    abbrev pub swept : Tally → Tally
-    swept t = foldl (meet arcs source terminal reach w 0 0) t (grown arcs source terminal)
+    abbrev pub sweptTally : Tally → Tally
+    sweptTally t = foldl (meet arcs source terminal reach w 0 0) t (grown arcs source terminal)
 
     meet-is : (t : Tally) (ks : List ℕ) → meet arcs source terminal reach w 0 0 t ks ≡ (if between (w .lo) (w .hi) (routeOf arcs ks) then try (w .cap) t (routeOf arcs ks) else t)
     unfolding meet between routeOf
@@ -162,14 +162,14 @@ module _ (arcs : List Arc) (source terminal reach : ℕ) where
         go false p false q = rw (zero-add, p, q, le-leb (w .lo) (metresOf arcs ks) (ltb-false _ _ p), le-leb (metresOf arcs ks) (w .hi) (ltb-false _ _ q))
 
     swept-is : (t : Tally) → t .over ≡ false
-        → swept t ≡ after (ltb (w .cap - t .ranked) (length (mains arcs source terminal w))) t (take (w .cap - t .ranked) (mains arcs source terminal w))
+        → sweptTally t ≡ after (ltb (w .cap - t .ranked) (length (mains arcs source terminal w))) t (take (w .cap - t .ranked) (mains arcs source terminal w))
     unfolding routesFrom
     swept-is t o =
         fold-same _ _ meet-is t (grown arcs source terminal)
         ∙ sym (foldl-map (routeOf arcs) (λ (u : Tally) (m : Route). if between (w .lo) (w .hi) m then try (w .cap) u m else u) (grown arcs source terminal) t)
         ∙ fold-keep (between (w .lo) (w .hi)) (try (w .cap)) t (map (routeOf arcs) (grown arcs source terminal)) ∙ tries (w .cap) t (mains arcs source terminal w) o
 
-    module _ (t r : Tally) (o : t .over ≡ false) (e : r ≡ swept t) where
+    module _ (t r : Tally) (o : t .over ≡ false) (e : r ≡ sweptTally t) where
       abbrev room : ℕ
       room = w .cap - t .ranked
 
