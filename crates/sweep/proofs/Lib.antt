@@ -1,4 +1,5 @@
 pub mod TryLaws
+pub mod SweepLaws
 pub mod FoldLaws
 pub mod MainLaws
 pub mod SweptLaws

@@ -21,7 +21,7 @@ use Rattle.problem.proofs.WindowLaws.{count, shorter}
 use Rattle.keys.specs.Keys.{keyOf}
 use Rattle.sweep.specs.declared.Tally.{Tally}
 use Rattle.sweep.specs.declared.Window.{Window}
-use Rattle.sweep.specs.Sweep.{offerPair, bestWith, taken, meet}
+use Rattle.sweep.specs.Sweep.{offerPair, bestWith, taken, meet, ended}
 use Rattle.sweep.proofs.FoldLaws.{fold-keep, AtLeast, smaller, larger, FirstOf, min-first, max-first, Given, first-same, first-fold, first-members}
 use Rattle.sweep.proofs.MainLaws.{between, grown, mains, ranking-among, window-count}
 
@@ -152,14 +152,15 @@ module _ (arcs : List Arc) (source terminal reach : ℕ) where
     sweptTally t = foldl (meet arcs source terminal reach w 0 0) t (grown arcs source terminal)
 
     meet-is : (t : Tally) (ks : List ℕ) → meet arcs source terminal reach w 0 0 t ks ≡ (if between (w .lo) (w .hi) (routeOf arcs ks) then try (w .cap) t (routeOf arcs ks) else t)
-    unfolding meet between routeOf
+    unfolding meet ended between routeOf
     meet-is t ks = go (ltb (metresOf arcs ks) (w .lo)) refl (ltb (w .hi) (metresOf arcs ks)) refl
       where
         go : (a : Bool) → ltb (metresOf arcs ks) (w .lo) ≡ a → (b : Bool) → ltb (w .hi) (metresOf arcs ks) ≡ b
             → meet arcs source terminal reach w 0 0 t ks ≡ (if between (w .lo) (w .hi) (routeOf arcs ks) then try (w .cap) t (routeOf arcs ks) else t)
-        go true p b q = rw (zero-add, p, lt-leb (w .lo) (metresOf arcs ks) (ltb-true _ _ p))
-        go false p true q = rw (zero-add, p, q, le-leb (w .lo) (metresOf arcs ks) (ltb-false _ _ p), lt-leb (metresOf arcs ks) (w .hi) (ltb-true _ _ q))
-        go false p false q = rw (zero-add, p, q, le-leb (w .lo) (metresOf arcs ks) (ltb-false _ _ p), le-leb (metresOf arcs ks) (w .hi) (ltb-false _ _ q))
+        go true p true q = rw (zero-add, q, lt-leb (w .lo) (metresOf arcs ks) (ltb-true _ _ p))
+        go true p false q = rw (zero-add, q, p, lt-leb (w .lo) (metresOf arcs ks) (ltb-true _ _ p))
+        go false p true q = rw (zero-add, q, le-leb (w .lo) (metresOf arcs ks) (ltb-false _ _ p), lt-leb (metresOf arcs ks) (w .hi) (ltb-true _ _ q))
+        go false p false q = rw (zero-add, q, p, le-leb (w .lo) (metresOf arcs ks) (ltb-false _ _ p), le-leb (metresOf arcs ks) (w .hi) (ltb-false _ _ q))
 
     swept-is : (t : Tally) → t .over ≡ false
         → sweptTally t ≡ after (ltb (w .cap - t .ranked) (length (mains arcs source terminal w))) t (take (w .cap - t .ranked) (mains arcs source terminal w))
