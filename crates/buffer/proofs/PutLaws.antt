@@ -1,17 +1,13 @@
 -- Bytes put one after the other are the bytes put together. Assumes nothing.
 use Prim.Native.Nat.{ℕ, suc, _+_, _≤_, _<_}
-use mathlib.Core.List.{List, [], _∷_, _++_, append-nil, append-assoc}
+use mathlib.Core.List.{List, [], _∷_, _++_, append-assoc}
 use mathlib.Core.Path.{_≡_, refl, sym, ap, ap₂, _∙_}
-use native.Mathlib.Nat.{add-zero, zero-add}
+use native.Mathlib.Nat.{zero-add}
 use native.Mathlib.Numerals.{add-one}
 use native.Mathlib.Omega.{arith}
-use lib.ListN.{length, getD, take, drop, set, length-append, length-drop, take-append-drop}
+use lib.ListN.{length, getD, take, drop, set, length-append, length-drop}
 use lib.Seq.{length-take-le, set-split, take-at, drop-at, append-snoc, drop-drop, take-length, paste, paste-zero, paste-suc, length-paste}
 use Rattle.buffer.specs.Puts.{Puts}
-
-pub puts-none : (before : List ℕ) (at : ℕ) → Puts [] before at before at
-puts-none before at =
-    record { place = sym (add-zero at); holds = sym (ap (λ l. l ++ drop at before) (append-nil (take at before)) ∙ take-append-drop at before) }
 
 pub puts-one : (b : ℕ) (before : List ℕ) (at : ℕ) → at < length before → Puts (b ∷ []) before at (set before at b) (at + 1)
 puts-one b before at h = record { place = refl; holds = rw add-one (set-split before at b h ∙ sym (append-snoc (take at before) b (drop (suc at) before))) }
@@ -45,9 +41,12 @@ module _ {xs ys before : List ℕ} {at : ℕ} {between : List ℕ} {n : ℕ} {af
 pub puts-next : {xs ys before between : List ℕ} {n : ℕ} {after : List ℕ} {m : ℕ} → Puts xs before 0 between n → Puts ys between n after m → Puts (xs ++ ys) before 0 after m
 puts-next p q = puts-then (omega arith) p q
 
--- from the beginning on: the bytes, and behind them what was there
+-- the bytes, and behind them what was there
 pub puts-whole : {bytes before after : List ℕ} {n : ℕ} → Puts bytes before 0 after n → after ≡ bytes ++ drop (length bytes) before
 puts-whole {bytes} {before} p = p .holds ∙ ap (λ (k : ℕ). bytes ++ drop k before) (p .place ∙ zero-add (length bytes))
+
+pub puts-taken : {bytes before after : List ℕ} {n : ℕ} → Puts bytes before 0 after n → take n after ≡ bytes
+puts-taken {bytes} {before} {n = n} p = ap (take n) (p .holds) ∙ take-at bytes (drop n before) n (sym (p .place ∙ zero-add (length bytes)))
 
 -- the buffer keeps its length
 pub puts-length : {bytes before : List ℕ} {at : ℕ} {after : List ℕ} {n : ℕ} → n ≤ length before → Puts bytes before at after n → length after ≡ length before

@@ -41,7 +41,7 @@ same-length : tie.Need-same-length Inv-loop μ-loop
 same-length c = begun-length (c .before .before .pre) (c .before .loop .inv)
 
 returns : tie.Need-returns Inv-loop μ-loop
-returns c = begun-all (c .before .before .pre) (c .before .loop .inv) refl (c .loop-test .left)
+returns c = begun-all (c .before .before .pre) (c .before .loop .inv) refl (omega arith)
 
 pub copy-spec : {M : Type 1} → statement M
 copy-spec =
