@@ -1,0 +1,4 @@
+pub mod DigitLaws
+pub mod ReadLaws
+pub mod FieldLaws
+pub mod LineLaws

@@ -1,0 +1,21 @@
+-- What is read of a reply: a number of 4 bytes, and a part that ends with the reply. Assumes nothing.
+use Prim.Native.Nat.{ℕ, _+_, _-_, _*_, _≤_}
+use mathlib.Core.List.{List}
+use mathlib.Core.Path.{_≡_, sym, _∙_}
+use native.Mathlib.Nat.{add-zero, min-le-right}
+use native.Mathlib.Numerals.{add-one}
+use native.Mathlib.Omega.{arith}
+use lib.ListN.{length, getD, take, drop, length-take, length-drop}
+use lib.Seq.{take-all}
+use Rattle.problem.specs.Table.{numberAt}
+
+pub number-four : (b : List ℕ) (at : ℕ) → getD b at 0 + 256 * (getD b (at + 1) 0 + 256 * (getD b (at + 1 + 1) 0 + 256 * getD b (at + 1 + 1 + 1) 0)) ≡ numberAt b at 4
+unfolding numberAt
+number-four b at = simp (add-one, add-zero)
+
+pub part-rest : (n from : ℕ) (l : List ℕ) → length l - from ≤ n → take (length l - from) (drop from l) ≡ take n (drop from l)
+part-rest n from l h = take-all (length l - from) (drop from l) (rw length-drop (omega arith)) ∙ sym (take-all n (drop from l) (rw length-drop h))
+
+-- a part is no longer than what it is taken from
+pub part-length : (n from : ℕ) (l : List ℕ) → length (take n (drop from l)) ≤ length l - from
+part-length n from l = rw (length-take, length-drop) (min-le-right n (length l - from))

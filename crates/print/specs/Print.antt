@@ -1,0 +1,17 @@
+-- How much room the text takes, and its first line. Assumes nothing.
+use Prim.Native.Nat.{ℕ}
+use mathlib.Core.List.{List, [], _∷_, _++_}
+use lib.Dec.{eqb}
+use lib.ListN.{getD}
+use Rattle.laws.specs.Choosing.{if_then_else_}
+use Rattle.problem.specs.Table.{numberAt}
+use Rattle.problem.specs.Printed.{text, fields}
+
+-- three lines are at most 460 bytes: their words, 5 numbers of up to 10 digits, 96 of up to 3, a space before each, 3 line feeds;
+-- a number is written only where there is room for 10 digits
+abbrev pub printRoom : ℕ
+printRoom = 480
+
+-- the first of the three lines
+unfoldable pub verdictLine : List ℕ → List ℕ
+verdictLine reply = (if eqb (getD reply 0 0) 0 then text "settled" else text "stopped") ++ fields (getD reply 1 0 ∷ getD reply 2 0 ∷ numberAt reply 8 4 ∷ [])
