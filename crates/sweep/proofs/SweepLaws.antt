@@ -72,6 +72,7 @@ module _ (net : List ℕ) (w : Window) (at met metres risks : ℕ) where
     pub place : Place net visit law at met metres risks i
     pub left : Left net visit law at met metres risks i (r .tally) ≡ whole (s .tally)
     pub cut-falls : r .cut ≤ s .cut
+    pub cut-past : w .hi < s .cut → w .hi < r .cut
     pub clear : r .tally .over ≡ false → (ks : List ℕ) → List·Memᴰ ks (grow arcs terminal (suc (unmet 32 met)) met at) → w .hi < metres + metresOf arcs ks
         → (r .cut ≤ metres + metresOf arcs ks) ⊎ List·Memᴰ ks (listFrom net visit law at met metres risks i)
 
@@ -82,6 +83,7 @@ module _ (net : List ℕ) (w : Window) (at met metres risks : ℕ) where
           place = place-first net visit law at met metres risks words node;
           left = left-first net visit law at met metres risks words (s .tally) node on;
           cut-falls = omega arith;
+          cut-past = λ h. h;
           clear = λ o ks m h. inr (subst (λ (l : List (List ℕ)). List·Memᴰ ks l) (list-first net visit law at met metres risks words node on) m);
         }
 
@@ -92,6 +94,7 @@ module _ (net : List ℕ) (w : Window) (at met metres risks : ℕ) where
         record {
           tally-is = sym (left-last net visit law at met metres risks words i (r .tally) h) ∙ rest .left;
           cut-falls = rest .cut-falls;
+          cut-past = rest .cut-past;
           clear = λ o ks m l. done (rest .clear o ks m l);
         }
       where
@@ -106,6 +109,7 @@ module _ (net : List ℕ) (w : Window) (at met metres risks : ℕ) where
         record {
           tally-is = sym (fold-idle (visit metres risks) (r .tally) (listFrom net visit law at met metres risks i) (λ ks m. meet-over arcs (wordAt net sourceAt) terminal (wordAt net reachAt) w metres risks (r .tally) ks e)) ∙ rest .left;
           cut-falls = rest .cut-falls;
+          cut-past = rest .cut-past;
           clear = λ o. absurd (true≢false (sym e ∙ o));
         }
 
@@ -120,14 +124,15 @@ module _ (net : List ℕ) (w : Window) (at met metres risks : ℕ) where
       arc-past = next-past net visit law at met metres risks words (rest .place) l
 
       -- on to the next arc: what lies past the window's end over this one is cut off
-      turn : (r′ : Swept) → Left net visit law at met metres risks i (r .tally) ≡ Left net visit law at met metres risks next (r′ .tally) → r′ .cut ≤ r .cut
+      turn : (r′ : Swept) → Left net visit law at met metres risks i (r .tally) ≡ Left net visit law at met metres risks next (r′ .tally) → r′ .cut ≤ r .cut → (w .hi < r .cut → w .hi < r′ .cut)
           → (r′ .tally .over ≡ false → (more : List ℕ) → bit met head ≡ 0 → List·Memᴰ more (grow arcs terminal (unmet 32 met) (with met head) head) → w .hi < metres + metresOf arcs (i ∷ more) → r′ .cut ≤ metres + metresOf arcs (i ∷ more))
           → Rest s r′ next
-      turn r′ e falls over =
+      turn r′ e falls past over =
           record {
             place = place-next net visit law at met metres risks words (rest .place) l;
             left = sym e ∙ rest .left;
             cut-falls = omega (arith, rest .cut-falls);
+            cut-past = λ h. past (rest .cut-past h);
             clear = λ o ks m h. go o h (rest .clear was ks m h);
           }
         where
@@ -148,7 +153,7 @@ module _ (net : List ℕ) (w : Window) (at met metres risks : ℕ) where
         rest-met one two three = go seen
           where
             go : Seen terminal (w .hi) (wordAt net (lowerFrom + head)) met metres risks (arcAt arcs i) g → Rest s r next
-            go (Seen.met-before e m) = turn r (left-met net visit law at met metres risks words (rest .place) l (r .tally) m) (omega arith) (λ o more z. absurd (omega arith))
+            go (Seen.met-before e m) = turn r (left-met net visit law at met metres risks words (rest .place) l (r .tally) m) (omega arith) (λ h. h) (λ o more z. absurd (omega arith))
             go (Seen.cut-off e f t) = absurd (one e)
             go (Seen.ends e n t f a b) = absurd (two e)
             go (Seen.leads e n t f a b c d) = absurd (three e)
@@ -164,6 +169,7 @@ module _ (net : List ℕ) (w : Window) (at met metres risks : ℕ) where
                 (left-idle net visit law at met metres risks words (rest .place) l (r .tally) (λ ks x b. meet-far arcs (wordAt net sourceAt) terminal (wordAt net reachAt) w _ _ (r .tally) ks (omega arith))
                 ∙ ap (Left net visit law at met metres risks next) (sym same))
                 (omega arith)
+                (λ h. omega arith)
                 (λ o more z m h.
                 let b = words .lower head (head-node net visit law at met metres risks words (rest .place) l) (grow-way arcs terminal (unmet 32 met) (with met head) head m) in
                 omega (arith, b))
@@ -195,6 +201,7 @@ module _ (net : List ℕ) (w : Window) (at met metres risks : ℕ) where
                 (left-there net visit law at met metres risks words (rest .place) l (r .tally) n t
                 ∙ ap (Left net visit law at met metres risks next) (meet-ends arcs (wordAt net sourceAt) terminal (wordAt net reachAt) w _ _ (r .tally) (omega arith) ∙ same a b ∙ sym met-it))
                 (omega arith)
+                (λ h. omega arith)
                 (λ o more z m h. absurd (omega (arith, ap (metresOf arcs) (alone more (unmet 32 met) t m))))
               where
                 same : g .metres ≡ metres + arcAt arcs i .metres → g .risks ≡ bitOr risks (arcAt arcs i .risks)
@@ -221,7 +228,7 @@ module _ (net : List ℕ) (w : Window) (at met metres risks : ℕ) where
             back : bit met head ≡ 0 → g .head ≡ head → g .met ≡ with met head → g .metres ≡ metres + arcAt arcs i .metres → g .risks ≡ bitOr risks (arcAt arcs i .risks) → (r′ : Swept) → Sweeps net w (g .head) (g .met) (g .metres) (g .risks) r r′ → Rest s r′ next
             back n a b c d r′ sw =
                 turn r′ (left-through net visit law at met metres risks words (rest .place) l (r .tally) (r′ .tally) n (through-head net visit law at met metres risks words (rest .place) l (r .tally) n ∙ same a b c d ∙ sym (sw .tally-is)))
-                (sw .cut-falls)
+                (sw .cut-falls) (sw .cut-past)
                 (λ o more z m h. omega (arith, c, sw .clear o more (moved a b m) (omega arith)))
               where
                 same : g .head ≡ head → g .met ≡ with met head → g .metres ≡ metres + arcAt arcs i .metres → g .risks ≡ bitOr risks (arcAt arcs i .risks)

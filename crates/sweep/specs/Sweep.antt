@@ -68,5 +68,6 @@ pub record Sweeps (net : List ℕ) (w : Window) (at met metres risks : ℕ) (s r
       ≡ foldl (meet (arcsIn net) (wordAt net sourceAt) (wordAt net terminalAt) (wordAt net reachAt) w metres risks) (s .tally)
       (grow (arcsIn net) (wordAt net terminalAt) (suc (unmet 32 met)) met at)
   pub cut-falls : r .cut ≤ s .cut
+  pub cut-past : w .hi < s .cut → w .hi < r .cut
   pub clear : r .tally .over ≡ false → (ks : List ℕ) → List·Memᴰ ks (grow (arcsIn net) (wordAt net terminalAt) (suc (unmet 32 met)) met at)
       → w .hi < metres + metresOf (arcsIn net) ks → r .cut ≤ metres + metresOf (arcsIn net) ks
