@@ -1,7 +1,6 @@
 -- `side::relax` meets its contract: each return is the case of `gains` that the tests before it lead to. Assumes nothing.
 use mathlib.Core.Logic.{inl, inr, ⊎-elim}
 use native.Mathlib.Omega.{arith}
-use borrow.Author.Needs.{needs}
 use borrow.Author.Tests.{not-true, not-false}
 use Rattle.side.specs.Relaxing.{metresBy, nearer}
 use Rattle.side.proofs.RelaxLaws.{small-most, relaxed-banned, relaxed-unreached, relaxed-near, relaxed-nearer}
