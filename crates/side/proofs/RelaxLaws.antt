@@ -1,4 +1,4 @@
--- One arc relaxed: when it gains, what `relax` returns; lengths stay small, entries stay those of free ways, and the cost falls. Assumes nothing.
+-- One arc relaxed: when it gains; then lengths stay small, entries stay those of free ways, and the cost falls. Assumes nothing.
 use mathlib.Core.Path.{_≡_, refl, sym, ap, _∙_}
 use mathlib.Core.Logic.{_⊎_, inl, inr, ⊎-elim}
 use mathlib.Core.Bool.{Bool, true, false, _&&_, _||_, not, false≢true}
@@ -10,15 +10,14 @@ use lib.Bits.{bitAnd, bitOr}
 use lib.Dec.{eqb, ltb}
 use lib.ListN.{length, getD, set, length-set}
 use lib.Seq.{getD-set-same, getD-set-other}
-use borrow.Author.Tests.{eqb-true, eq-eqb, ne-eqb, ltb-true, ltb-false, lt-ltb, le-ltb}
+use borrow.Author.Tests.{eqb-true, eq-eqb, ne-eqb, ltb-true, ltb-false}
 use Rattle.problem.specs.declared.Arc.{Arc}
 use Rattle.problem.specs.Table.{mostArcMetres, mostReach}
 use Rattle.problem.specs.Routes.{arcAt, metresOf, risksOf}
 use Rattle.problem.proofs.TableLaws.{SoundArc}
 use Rattle.side.specs.declared.Side.{Side}
-use Rattle.side.specs.declared.Relaxed.{Relaxed}
 use Rattle.side.specs.Side.{reachedAt, metresAt, risksAt, Reaches, Entries}
-use Rattle.side.specs.Relaxing.{metresBy, gains, nearer, relaxed, count, Small}
+use Rattle.side.specs.Relaxing.{metresBy, gainsBy, gains, nearer, count, Small}
 use Rattle.side.proofs.StoreLaws.{sum, sum-set, count-le, count-new, count-again}
 use Rattle.side.proofs.FreeLaws.{free-over}
 
@@ -43,48 +42,35 @@ tests-failed false l p = absurd (false≢true (sym p))
 
 module _ (banned : ℕ) (s : Side) (a : Arc) where
   pub gains-gained : gains banned s a ≡ true → Gained banned s a
-  unfolding gains
+  unfolding gainsBy metresBy
   gains-gained e =
       let t = tests-held (eqb (bitAnd (a .risks) banned) 0) (reachedAt s (a .head)) (reachedAt s (a .tail)) (ltb (metresBy s a) (metresAt s (a .tail))) e in
       record { free = eqb-true _ _ (t .0); head-reached = t .1; tail-nearer = ⊎-elim inl (λ l. inr (ltb-true _ _ l)) (t .2) }
 
-  pub gained-gains : Gained banned s a → gains banned s a ≡ true
-  unfolding gains
-  gained-gains g = rw (eq-eqb _ _ (g .free), g .head-reached) (⊎-elim (λ e. rw e) (λ l. go (reachedAt s (a .tail)) (lt-ltb _ _ l)) (g .tail-nearer))
-    where
-      go : (t : Bool) → ltb (metresBy s a) (metresAt s (a .tail)) ≡ true → (not t || ltb (metresBy s a) (metresAt s (a .tail))) ≡ true
-      go true e = e
-      go false e = refl
-
   -- a free arc with a reached head that gains nothing: its tail is near enough
   pub gains-not : gains banned s a ≡ false → bitAnd (a .risks) banned ≡ 0 → reachedAt s (a .head) ≡ true → (reachedAt s (a .tail) ≡ true) × (metresAt s (a .tail) ≤ metresBy s a)
-  unfolding gains
+  unfolding gainsBy metresBy
   gains-not e f h =
       let t = tests-failed (reachedAt s (a .tail)) (ltb (metresBy s a) (metresAt s (a .tail))) (rw (eq-eqb _ _ f, h) at e) in
       (t .0, ltb-false _ _ (t .1))
 
--- ---- what `relax` returns
+-- what the code of `gains` returns, test by test
+module _ (banned : ℕ) (a : Arc) (head : Bool) (headMetres : ℕ) (tail : Bool) (tailMetres : ℕ) where
+  pub gains-banned : (bitAnd (a .risks) banned ≡ 0 → ⊥) → false ≡ gainsBy banned a head headMetres tail tailMetres
+  unfolding gainsBy
+  gains-banned n = rw (ne-eqb _ _ n)
 
-module _ (banned : ℕ) (r : Relaxed) (a : Arc) where
-  idle : gains banned (r .side) a ≡ false → r ≡ relaxed banned r a
-  unfolding relaxed
-  idle e = rw e
+  pub gains-unreached : bitAnd (a .risks) banned ≡ 0 → head ≡ false → false ≡ gainsBy banned a head headMetres tail tailMetres
+  unfolding gainsBy
+  gains-unreached f h = rw (eq-eqb _ _ f, h)
 
-  pub relaxed-banned : (bitAnd (a .risks) banned ≡ 0 → ⊥) → r ≡ relaxed banned r a
-  unfolding gains
-  relaxed-banned n = idle (rw (ne-eqb _ _ n))
+  pub gains-new : bitAnd (a .risks) banned ≡ 0 → head ≡ true → tail ≡ false → true ≡ gainsBy banned a head headMetres tail tailMetres
+  unfolding gainsBy
+  gains-new f h t = rw (eq-eqb _ _ f, h, t)
 
-  pub relaxed-unreached : bitAnd (a .risks) banned ≡ 0 → reachedAt (r .side) (a .head) ≡ false → r ≡ relaxed banned r a
-  unfolding gains
-  relaxed-unreached f h = idle (rw (eq-eqb _ _ f, h))
-
-  pub relaxed-near : bitAnd (a .risks) banned ≡ 0 → reachedAt (r .side) (a .head) ≡ true → reachedAt (r .side) (a .tail) ≡ true → metresAt (r .side) (a .tail) ≤ metresBy (r .side) a → r ≡ relaxed banned r a
-  unfolding gains
-  relaxed-near f h t l = idle (rw (eq-eqb _ _ f, h, t) (le-ltb _ _ l))
-
-  pub relaxed-nearer : Gained banned (r .side) a → _≡_ {A = Relaxed} (record { side = nearer (r .side) a; changed = true }) (relaxed banned r a)
-  unfolding relaxed
-  relaxed-nearer g = rw (gained-gains banned (r .side) a g)
+  pub gains-less : bitAnd (a .risks) banned ≡ 0 → head ≡ true → tail ≡ true → ltb (headMetres + a .metres) tailMetres ≡ gainsBy banned a head headMetres tail tailMetres
+  unfolding gainsBy
+  gains-less f h t = rw (eq-eqb _ _ f, h, t)
 
 -- ---- lengths stay small
 

@@ -36,7 +36,10 @@ relaxed-not : (banned : ℕ) (r : Relaxed) (a : Arc) → gains banned (r .side) 
 unfolding relaxed
 relaxed-not banned r a e = rw e
 
-pub small-relaxed : (banned : ℕ) (r : Relaxed) (a : Arc) → SoundArc a → Small (r .side) → Small (relaxed banned r a .side)
+pub small-gains : (banned : ℕ) (s t : Side) (a : Arc) (g : Bool) → SoundArc a → Small s → g ≡ gains banned s a → g ≡ true → t ≡ nearer s a → Small t
+small-gains banned s t a g sound small asked e n = rw n (small-nearer banned s a sound small (gains-gained banned s a (sym asked ∙ e)))
+
+small-relaxed : (banned : ℕ) (r : Relaxed) (a : Arc) → SoundArc a → Small (r .side) → Small (relaxed banned r a .side)
 small-relaxed banned r a sound small = go (gains banned (r .side) a) refl
   where
     go : (b : Bool) → gains banned (r .side) a ≡ b → Small (relaxed banned r a .side)
@@ -141,12 +144,22 @@ module _ (arcs : List Arc) (terminal banned : ℕ) (sound : allSound arcs ≡ tr
 abbrev pub Rest : ℕ → List Arc → Relaxed → ℕ → Relaxed → Type 0
 Rest banned arcs start k r = foldl (relaxed banned) r (drop k arcs) ≡ foldl (relaxed banned) start arcs
 
-module _ (banned : ℕ) (arcs : List Arc) (sound : allSound arcs ≡ true) (start : Relaxed) where
-  pub rest-on : (k : ℕ) (r q : Relaxed) (a : Arc) → k < length arcs → a ≡ arcAt arcs k → q ≡ relaxed banned r a → Small (r .side) → Rest banned arcs start k r
-      → Small (q .side) × Rest banned arcs start (k + 1) q
-  rest-on k r q a h ea eq small rest =
-      let e : q ≡ relaxed banned r (arcAt arcs k) = eq ∙ ap (relaxed banned r) ea in
-      (rw e (small-relaxed banned r (arcAt arcs k) (sound-at arcs sound k h) small), rw (e, add-one) (rw (drop-cons arcs k (arcAt [] 0) h) at rest))
+module _ (banned : ℕ) (arcs : List Arc) (start : Relaxed) where
+  rest-on : (k : ℕ) (r : Relaxed) → k < length arcs → Rest banned arcs start k r → Rest banned arcs start (k + 1) (relaxed banned r (arcAt arcs k))
+  rest-on k r h rest = rw add-one (rw (drop-cons arcs k (arcAt [] 0) h) at rest)
+
+  -- arc k, as the code asks about it: g is the answer
+  module _ (k : ℕ) (s : Side) (changed : Bool) (a : Arc) (g : Bool) (inside : k < length arcs) (is : a ≡ arcAt arcs k) (asked : g ≡ gains banned s a)
+      (rest : Rest banned arcs start k (record { side = s; changed = changed })) where
+    answer : (b : Bool) → g ≡ b → gains banned s (arcAt arcs k) ≡ b
+    answer b e = ap (gains banned s) (sym is) ∙ (sym asked ∙ e)
+
+    pub rest-rests : g ≡ false → Rest banned arcs start (k + 1) (record { side = s; changed = changed })
+    rest-rests e = subst (Rest banned arcs start (k + 1)) (relaxed-not banned _ (arcAt arcs k) (answer false e)) (rest-on k _ inside rest)
+
+    pub rest-gains : (t : Side) → g ≡ true → t ≡ nearer s a → Rest banned arcs start (k + 1) (record { side = t; changed = true })
+    rest-gains t e n =
+        rw (n ∙ ap (nearer s) is) (subst (Rest banned arcs start (k + 1)) (relaxed-if banned _ (arcAt arcs k) (answer true e)) (rest-on k _ inside rest))
 
   pub rest-end : (k : ℕ) (r : Relaxed) → k ≡ length arcs → Rest banned arcs start k r → r ≡ foldl (relaxed banned) start arcs
   rest-end k r e rest = rw (e, drop-length) at rest

@@ -18,10 +18,12 @@ unfoldable pub metresBy : Side → Arc → ℕ
 metresBy s a = metresAt s (a .head) + a .metres
 
 -- the arc is free, its head is reached, and over it the tail gets nearer
-unfoldable pub gains : ℕ → Side → Arc → Bool
-gains banned s a =
-    eqb (bitAnd (a .risks) banned) 0
-    && (reachedAt s (a .head) && (not (reachedAt s (a .tail)) || ltb (metresBy s a) (metresAt s (a .tail))))
+unfoldable pub gainsBy : ℕ → Arc → (headReached : Bool) (headMetres : ℕ) (tailReached : Bool) (tailMetres : ℕ) → Bool
+gainsBy banned a headReached headMetres tailReached tailMetres =
+    eqb (bitAnd (a .risks) banned) 0 && (headReached && (not tailReached || ltb (headMetres + a .metres) tailMetres))
+
+abbrev pub gains : ℕ → Side → Arc → Bool
+gains banned s a = gainsBy banned a (reachedAt s (a .head)) (metresAt s (a .head)) (reachedAt s (a .tail)) (metresAt s (a .tail))
 
 -- the tail's entry made anew
 unfoldable pub nearer : Side → Arc → Side

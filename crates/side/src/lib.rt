@@ -2,11 +2,13 @@
 use problem::Arc;
 ghost use mathlib.Core.Path.{_≡_};
 ghost use mathlib.Core.Bool.{true};
-ghost use Prim.Native.Nat.{_<_};
+ghost use Prim.Native.Nat.{_+_, _*_, _≤_, _<_, _^_};
+ghost use lib.ListN.{length};
 ghost use Rattle.problem.specs.Table.{arcsOf, allSound};
+ghost use Rattle.problem.specs.Routes.{arcAt};
 ghost use Rattle.problem.proofs.TableLaws.{SoundArc};
 ghost use Rattle.side.specs.Side.{SideTable};
-ghost use Rattle.side.specs.Relaxing.{Small, relaxed, roundOf};
+ghost use Rattle.side.specs.Relaxing.{Small, gainsBy, roundOf};
 
 // One entry per node: the shortest length, whether the terminal can be reached at all, and the risks of one way of that length.
 pub struct Side {
@@ -15,60 +17,79 @@ pub struct Side {
     pub risks: [u64; arcs::NODES],
 }
 
-// A table, and whether an arc has changed it.
+// A table, and whether a round has changed it.
 pub struct Relaxed {
     pub side: Side,
     pub changed: bool,
 }
 
-// Relaxes one arc: where it is free and brings its tail nearer, the tail's entry is made anew.
-fn relax(r: Relaxed, a: Arc, banned: u64) -> Relaxed
-    requires { ⌜ Small (r .side) ⌝ }
-    requires { ⌜ SoundArc a ⌝ }
-    ensures { λ o. ⌜ o ≡ relaxed banned r a ⌝ }
+// Whether the arc is free and brings its tail nearer, by the entries of its head and its tail.
+fn gains(
+    a: Arc,
+    banned: u64,
+    head_reached: bool,
+    head_metres: u32,
+    tail_reached: bool,
+    tail_metres: u32,
+) -> bool
+    requires { ⌜ «head_metres» + a .metres < 2 ^ 32 ⌝ }
+    ensures { λ o. ⌜ o ≡ gainsBy banned a «head_reached» «head_metres» «tail_reached» «tail_metres» ⌝ }
 {
     if a.risks & banned != 0 {
-        return r;
+        return false;
     }
-    let mut s = r.side;
-    let tail = a.tail as usize;
-    let head = a.head as usize;
-    if !s.reached[head] {
-        return r;
+    if !head_reached {
+        return false;
     }
-    let metres = s.metres[head] + a.metres;
-    if s.reached[tail] {
-        if s.metres[tail] <= metres {
-            return r;
-        }
+    if !tail_reached {
+        return true;
     }
-    let risks = a.risks | s.risks[head];
-    s.metres[tail] = metres;
-    s.reached[tail] = true;
-    s.risks[tail] = risks;
-    Relaxed {
-        side: s,
-        changed: true,
-    }
+    head_metres + a.metres < tail_metres
 }
 
-// Relaxes every arc of the table once, in order.
-fn round(table: &[u8], banned: u64, s: Side) -> Relaxed
+// Arc number k of a sound table.
+fn sound_arc(table: &[u8], k: usize) -> Arc
+    requires { ⌜ (16 * k + 16 ≤ length (now table)) × (allSound (arcsOf (now table)) ≡ true) ⌝ }
+    ensures { λ a. ⌜ (a ≡ arcAt (arcsOf (now (table .entry))) k) × SoundArc a ⌝ }
+{
+    arcs::arc_at(table, k)
+}
+
+// Relaxes every arc of the table once, in order: where one gains, its tail's entry is made anew, over the arc and on as its head's entry says.
+fn round(table: &[u8], banned: u64, from: Side) -> Relaxed
     requires { ⌜ allSound (arcsOf (now table)) ≡ true ⌝ }
-    requires { ⌜ Small s ⌝ }
-    ensures { λ o. ⌜ o ≡ roundOf banned (arcsOf (now (table .entry))) s ⌝ }
+    requires { ⌜ Small from ⌝ }
+    ensures { λ o. ⌜ o ≡ roundOf banned (arcsOf (now (table .entry))) from ⌝ }
 {
     let n = table.len() / 16;
-    let mut r = Relaxed {
-        side: s,
-        changed: false,
-    };
+    let mut s = from;
+    let mut changed = false;
     let mut k: usize = 0;
     while k < n {
-        r = relax(r, arcs::arc_at(table, k), banned);
+        let a = sound_arc(table, k);
         k = k + 1;
+        let tail = a.tail as usize;
+        let head = a.head as usize;
+        let metres = s.metres[head];
+        if gains(
+            a,
+            banned,
+            s.reached[head],
+            metres,
+            s.reached[tail],
+            s.metres[tail],
+        ) {
+            let risks = s.risks[head];
+            s.metres[tail] = metres + a.metres;
+            s.reached[tail] = true;
+            s.risks[tail] = a.risks | risks;
+            changed = true;
+        }
     }
-    r
+    Relaxed {
+        side: s,
+        changed: changed,
+    }
 }
 
 // The side table, by rounds until one changes nothing.
