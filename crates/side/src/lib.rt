@@ -18,9 +18,9 @@ pub struct Side {
 }
 
 // A table, and whether a round has changed it.
-pub struct Relaxed {
-    pub side: Side,
-    pub changed: bool,
+struct Relaxed {
+    side: Side,
+    changed: bool,
 }
 
 // Whether the arc is free and brings its tail nearer, by the entries of its head and its tail.
