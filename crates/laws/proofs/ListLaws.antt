@@ -85,6 +85,15 @@ module _ {A : Type 0} where
   keep-none test [] f = refl
   keep-none test (a ∷ l) f = rw (f a (List·Memᴰ·head refl), keep) (keep-none test l (λ x m. f x (List·Memᴰ·tail m)))
 
+  pub length-keep : (test : A → Bool) (l : List A) → length (keep test l) ≤ length l
+  unfolding keep
+  length-keep test [] = omega arith
+  length-keep test (a ∷ l) = go (test a) refl (length-keep test l)
+    where
+      go : (s : Bool) → test a ≡ s → length (keep test l) ≤ length l → length (keep test (a ∷ l)) ≤ length (a ∷ l)
+      go true e ih = rw (e, keep) (omega arith)
+      go false e ih = rw (e, keep) (omega arith)
+
   -- ---- Pairwise
 
   module _ {R : A → A → Type 0} where
