@@ -1,0 +1,42 @@
+-- `trace::meet` meets its contract: each return is one case of `meet`, by the tests that led there. Assumes nothing.
+use mathlib.Core.Path.{_≡_, sym, ap, _∙_}
+use Prim.Native.Nat.{ℕ}
+use Rattle.track.specs.Track.{routeIn}
+use Rattle.trace.specs.Trace.{Sought}
+use Rattle.trace.proofs.TraceLaws.{meet-other, meet-wanted, meet-passed}
+use borrow.Author.Needs.{needs}
+use Rattle.trace.proofs.meet.Statement.{statement}
+use Rattle.trace.proofs.meet.Tie as tie
+
+cast-if1 : tie.Need-cast-if1
+cast-if1 c = search needs
+
+returns : tie.Need-returns
+unfolding routeIn
+returns c =
+    let s = c .before .before .before .before in
+    (s .pre .3, sym (meet-other _ _ _ _ (c .if1 .taken)))
+
+wanted-requires : tie.Need-wanted-requires
+wanted-requires c κs = search needs
+
+returns-2 : tie.Need-returns-2
+unfolding routeIn
+returns-2 c =
+    let k = c .before in
+    let s = k .before .before .before .before .before in
+    (s .pre .2, sym (meet-wanted _ _ _ _ (s .pre .4) (k .before .if1 .left) (sym (k .wanted .ensures) ∙ c .if2 .taken)))
+
+one-more-requires : tie.Need-one-more-requires
+one-more-requires c κs = search needs
+
+returns-3 : tie.Need-returns-3
+unfolding routeIn
+returns-3 c =
+    let k = c .before .before .before in
+    let s = k .before .before .before .before .before in
+    (s .pre .3, sym (meet-passed _ _ _ _ (s .pre .4) (k .before .if1 .left) (sym (k .wanted .ensures) ∙ c .before .before .if2 .left) (c .one-more .ensures)))
+
+pub meet-spec : {M : Type 1} → statement M
+meet-spec =
+    tie.close (tie.spec cast-if1 returns wanted-requires returns-2 one-more-requires returns-3)

@@ -1,0 +1,117 @@
+-- The first route of a wanted length that passes a test, in depth-first order, and how many of that length stand before it. Assumes nothing.
+use Prim.Native.Nat.{ℕ, _+_, _*_, _^_, _≤_, _<_, min}
+use mathlib.Core.Bool.{Bool, true, false}
+use mathlib.Core.List.{List, [], _∷_, _++_, foldl, List·Memᴰ}
+use mathlib.Core.Path.{_≡_}
+use lib.Bits.{bitAnd}
+use lib.Count.{onesIn}
+use lib.Dec.{eqb}
+use lib.ListN.{length}
+use Rattle.laws.specs.Choosing.{if_then_else_, keep}
+use Rattle.laws.specs.Sets.{bit, with, unmet}
+use Rattle.problem.specs.declared.Arc.{Arc}
+use Rattle.problem.specs.Table.{lastNode, mostArcs, mostReach, mostAllowance}
+use Rattle.problem.specs.Routes.{arcAt, metresOf, risksOf, grow, Route, routeOf}
+use Rattle.keys.specs.Keys.{standbyKey}
+use Rattle.net.specs.Net.{terminalAt, wordAt, Net}
+use Rattle.standby.specs.Standby.{offer}
+use Rattle.track.specs.declared.Track.{Track}
+use Rattle.track.specs.Track.{routeIn, Fit, onward}
+use Rattle.trace.specs.declared.Hop.{Hop}
+use Rattle.trace.specs.declared.Want.{Want}
+use Rattle.trace.specs.declared.Found.{Found}
+
+-- ---- what is wanted
+
+-- all that leads from the source to the terminal, in depth-first order
+abbrev pub allFrom : List Arc → ℕ → ℕ → List (List ℕ)
+allFrom arcs source terminal = grow arcs terminal mostArcs (with 0 source) source
+
+-- whether a route of the wanted length that has these risks is the wanted one: as a main, where the least key of its standbys is the key; as a
+-- standby of `main`, where its own key is
+unfoldable pub isWanted : List Arc → ℕ → ℕ → ℕ → Want → ℕ → Bool
+isWanted arcs source terminal reach w risks =
+    if w .as_main
+    then eqb (foldl (offer arcs reach risks 0 0) (w .key + 1) (allFrom arcs source terminal)) (w .key)
+    else eqb (standbyKey (onesIn 64 (bitAnd (w .main) risks)) (w .metres)) (w .key)
+
+-- no route and no key is larger
+pub record InRange (w : Want) : Type 0 where
+  pub metres-range : w .metres ≤ mostReach
+  pub key-range : w .key < 65 * 2 ^ 32
+
+-- ---- the search, route by route
+
+-- the search so far: whether the route was found, how many of the wanted length came before it, and the route
+pub record Sought : Type 0 where
+  pub found : Bool
+  pub passed : ℕ
+  pub route : Route
+
+abbrev pub soughtIn : Found → Sought
+soughtIn f = record { found = f .found; passed = f .passed; route = routeIn (f .track) }
+
+-- the route that goes on over the arcs ks, one after the other
+unfoldable pub along : List Arc → Route → List ℕ → Route
+along arcs r [] = r
+along arcs r (k ∷ ks) = along arcs (onward r k (arcAt arcs k)) ks
+
+-- after one more route; once found, nothing changes
+unfoldable pub meet : ℕ → (ℕ → Bool) → Sought → Route → Sought
+meet metres test s r =
+    if s .found then s
+    else (if eqb (r .metres) metres
+    then (if test (r .risks)
+    then record { found = true; passed = s .passed; route = r }
+    else record { found = false; passed = min (s .passed + 1) mostAllowance; route = s .route })
+    else s)
+
+module _ (arcs : List Arc) (metres : ℕ) (test : ℕ → Bool) where
+  -- after one more list: `behind` lies behind, ks ahead
+  unfoldable pub seek : Route → Sought → List ℕ → Sought
+  seek behind s ks = meet metres test s (along arcs behind ks)
+
+  -- ---- what is found
+
+  -- no list of the wanted length passes
+  abbrev pub NonePasses : List (List ℕ) → Type 0
+  NonePasses l = (ks : List ℕ) → List·Memᴰ ks l → metresOf arcs ks ≡ metres → test (risksOf arcs ks) ≡ false
+
+  -- the first list of the wanted length that passes, and how many of that length stand before it, as far as they are counted
+  pub record First (all : List (List ℕ)) (s : Sought) : Type 0 where
+    pub before : List (List ℕ)
+    pub ks : List ℕ
+    pub after : List (List ℕ)
+    pub place : all ≡ before ++ ks ∷ after
+    pub length-is : metresOf arcs ks ≡ metres
+    pub passes : test (risksOf arcs ks) ≡ true
+    pub none-before : NonePasses before
+    pub counted : s .passed ≡ min (length (keep (λ js. eqb (metresOf arcs js) metres) before)) mostAllowance
+    pub route-is : s .route ≡ routeOf arcs ks
+
+  pub data Outcome (all : List (List ℕ)) (s : Sought) : Type 0 where
+    first : s .found ≡ true → First all s → Outcome all s
+    nowhere : s .found ≡ false → NonePasses all → Outcome all s
+
+-- ---- the code's search
+
+-- what arc a, which leads on by at least `lower` metres, is to a search for `most` metres that has `metres` behind it and has met `met`
+pub data Looked (terminal most lower met metres : ℕ) (a : Arc) (h : Hop) : Type 0 where
+  -- passed over: its head was met before; every route over it is too long
+  met-before : h .kind ≡ 0 → bit met (a .head) ≡ 1 → Looked terminal most lower met metres a h
+  too-far : h .kind ≡ 0 → most < metres + a .metres + lower → Looked terminal most lower met metres a h
+  -- a route ends with it
+  ends : h .kind ≡ 1 → bit met (a .head) ≡ 0 → metres + a .metres + lower ≤ most → a .head ≡ terminal → Looked terminal most lower met metres a h
+  -- routes may go on from its head
+  leads : h .kind ≡ 2 → bit met (a .head) ≡ 0 → metres + a .metres + lower ≤ most → (a .head ≡ terminal → ⊥) → h .head ≡ a .head → h .met ≡ with met (a .head)
+      → Looked terminal most lower met metres a h
+
+-- what a search may count on at a node, with the track t behind it
+pub record Ready (net : List ℕ) (w : Want) (at met : ℕ) (t : Track) : Type 0 where
+  pub words : Net net
+  pub range : InRange w
+  pub node : at ≤ lastNode
+  pub goes-on : at ≡ wordAt net terminalAt → ⊥
+  pub fit : Fit t
+  pub room : t .count + unmet 32 met ≤ mostArcs
+  pub not-past : t .metres ≤ w .metres
