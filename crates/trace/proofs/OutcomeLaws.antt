@@ -1,22 +1,122 @@
 -- What a search from the source finds: the first list of the wanted length that passes, and how many of that length stand before it. Assumes nothing.
-use mathlib.Core.Path.{_≡_, refl, sym, ap, _∙_}
+use mathlib.Core.Path.{_≡_, refl, sym, ap, ap₂, _∙_, subst}
+use mathlib.Core.Logic.{_⊎_, inl, inr}
 use mathlib.Core.Bool.{Bool, true, false}
-use mathlib.Core.List.{List, [], _∷_, _++_, foldl}
-use Prim.Native.Nat.{ℕ, suc, _+_, _≤_, _<_}
+use mathlib.Core.List.{List, [], _∷_, _++_, foldl, foldl-append, List·Memᴰ, List·Memᴰ·head, List·Memᴰ·tail, List·Memᴰ·not-nil, List·Memᴰ·cases-cons}
+use Prim.Native.Nat.{ℕ, suc, _+_, _≤_, _<_, min}
+use native.Mathlib.Nat.{zero-add}
 use native.Mathlib.Omega.{arith}
+use lib.Bits.{bitOr, or-zero-l}
 use lib.Dec.{eqb}
 use lib.ListN.{length}
+use borrow.Author.Tests.{eqb-true, eqb-false}
+use Rattle.laws.specs.Choosing.{keep}
 use Rattle.laws.specs.Sets.{bit, with, unmet}
 use Rattle.laws.proofs.SetLaws.{bit-empty, unmet-with}
 use Rattle.problem.specs.declared.Arc.{Arc}
-use Rattle.problem.specs.Table.{lastNode}
-use Rattle.problem.specs.Routes.{arcAt, grow}
+use Rattle.problem.specs.Table.{lastNode, mostAllowance}
+use Rattle.problem.specs.Routes.{arcAt, metresOf, risksOf, grow, Route, routeOf}
+use Rattle.problem.specs.Pairs.{noRoute}
 use Rattle.problem.proofs.TableLaws.{sound-at}
-use Rattle.problem.proofs.GrowthLaws.{grow-enough}
+use Rattle.problem.proofs.GrowthLaws.{fold-idle, grow-enough}
 use Rattle.net.specs.Net.{terminalAt, reachAt, sourceAt, wordAt, arcsIn, Net}
 use Rattle.standby.specs.Standby.{offer}
+use Rattle.track.specs.declared.Track.{Track}
+use Rattle.track.specs.Track.{routeIn, Holds}
+use Rattle.track.proofs.FitLaws.{fit-count}
 use Rattle.trace.specs.declared.Want.{Want}
-use Rattle.trace.specs.Trace.{allFrom, isWanted}
+use Rattle.trace.specs.Trace.{allFrom, isWanted, InRange, Sought, along, meet, seek, asLong, NonePasses, First, Outcome, Ready}
+use Rattle.trace.proofs.TraceLaws.{along-is, meet-found, meet-other, meet-wanted, meet-passed}
+
+-- ---- a search over a whole list
+
+module _ (arcs : List Arc) (metres : ℕ) (test : ℕ → Bool) where
+  -- a list passes, or, if it has the wanted length, does not
+  decide : (ks : List ℕ) → ((metresOf arcs ks ≡ metres) × (test (risksOf arcs ks) ≡ true)) ⊎ (metresOf arcs ks ≡ metres → test (risksOf arcs ks) ≡ false)
+  decide ks = go (eqb (metresOf arcs ks) metres) refl (test (risksOf arcs ks)) refl
+    where
+      go : (b : Bool) → eqb (metresOf arcs ks) metres ≡ b → (c : Bool) → test (risksOf arcs ks) ≡ c
+          → ((metresOf arcs ks ≡ metres) × (test (risksOf arcs ks) ≡ true)) ⊎ (metresOf arcs ks ≡ metres → test (risksOf arcs ks) ≡ false)
+      go true e true f = inl (eqb-true (metresOf arcs ks) metres e, f)
+      go true e false f = inr (λ x. f)
+      go false e c f = inr (λ x. absurd (eqb-false (metresOf arcs ks) metres e x))
+
+  none-more : {ks : List ℕ} {l : List (List ℕ)} → (metresOf arcs ks ≡ metres → test (risksOf arcs ks) ≡ false) → NonePasses arcs metres test l → NonePasses arcs metres test (ks ∷ l)
+  none-more {ks} {l} f g js m = go (List·Memᴰ·cases-cons m)
+    where
+      go : (js ≡ ks) ⊎ List·Memᴰ js l → metresOf arcs js ≡ metres → test (risksOf arcs js) ≡ false
+      go (inl e) h = rw e (f (rw e at h))
+      go (inr n) h = g js n h
+
+  -- some list passes, and then one is the first, or none does
+  first-or-none : (l : List (List ℕ)) → First arcs metres test l ⊎ NonePasses arcs metres test l
+  first-or-none [] = inr (λ ks m. absurd (List·Memᴰ·not-nil m))
+  first-or-none (ks ∷ l) = go (decide ks) (first-or-none l)
+    where
+      go : ((metresOf arcs ks ≡ metres) × (test (risksOf arcs ks) ≡ true)) ⊎ (metresOf arcs ks ≡ metres → test (risksOf arcs ks) ≡ false)
+          → First arcs metres test l ⊎ NonePasses arcs metres test l → First arcs metres test (ks ∷ l) ⊎ NonePasses arcs metres test (ks ∷ l)
+      go (inl p) ih = inl (record { before = []; ks = ks; after = l; place = refl; length-is = p .0; passes = p .1; none-before = λ js m. absurd (List·Memᴰ·not-nil m) })
+      go (inr p) (inl f) =
+          inl (record { before = ks ∷ f .before; ks = f .ks; after = f .after; place = ap (λ (x : List (List ℕ)). ks ∷ x) (f .place); length-is = f .length-is; passes = f .passes; none-before = none-more p (f .none-before) })
+      go (inr p) (inr n) = inr (none-more p n)
+
+  -- from the source, nothing lies behind
+  seek-all : (s : Sought) (ks : List ℕ) → seek arcs metres test noRoute s ks ≡ meet metres test s (routeOf arcs ks)
+  unfolding seek routeOf
+  seek-all s ks = ap (meet metres test s) (along-is arcs noRoute ks ∙ rw (zero-add (metresOf arcs ks), or-zero-l (risksOf arcs ks)))
+
+  -- where none passes, those of the wanted length are counted, and nothing else changes
+  fold-none : (l : List (List ℕ)) (s : Sought) (p : ℕ) → s .found ≡ false → s .passed ≤ mostAllowance → NonePasses arcs metres test l → p ≡ min (s .passed + length (keep (asLong arcs metres) l)) mostAllowance
+      → foldl (seek arcs metres test noRoute) s l ≡ record { found = false; passed = p; route = s .route }
+  unfolding keep routeOf
+  fold-none [] s p e b n q = let same : s .passed ≡ p = omega arith in rw (← same, ← e)
+  fold-none (ks ∷ l) s p e b n q = go (eqb (metresOf arcs ks) metres) refl (fold-none l)
+    where
+      none : NonePasses arcs metres test l
+      none js m = n js (List·Memᴰ·tail m)
+
+      go : (c : Bool) → eqb (metresOf arcs ks) metres ≡ c
+          → ((r : Sought) (j : ℕ) → r .found ≡ false → r .passed ≤ mostAllowance → NonePasses arcs metres test l → j ≡ min (r .passed + length (keep (asLong arcs metres) l)) mostAllowance
+          → foldl (seek arcs metres test noRoute) r l ≡ record { found = false; passed = j; route = r .route })
+          → foldl (seek arcs metres test noRoute) s (ks ∷ l) ≡ record { found = false; passed = p; route = s .route }
+      go true f ih =
+          let same = eqb-true (metresOf arcs ks) metres f in
+          ap (λ (r : Sought). foldl (seek arcs metres test noRoute) r l) (seek-all s ks ∙ meet-passed metres test s (routeOf arcs ks) e same (n ks (List·Memᴰ·head refl) same) refl)
+          ∙ ih _ p refl (omega arith) none (omega (arith, rw (f, keep) at q))
+      go false f ih =
+          ap (λ (r : Sought). foldl (seek arcs metres test noRoute) r l) (seek-all s ks ∙ meet-other metres test s (routeOf arcs ks) (eqb-false (metresOf arcs ks) metres f))
+          ∙ ih s p e b none (rw (f, keep) at q)
+
+  -- once found, the rest is passed over
+  fold-found : (l : List (List ℕ)) (s : Sought) → s .found ≡ true → foldl (seek arcs metres test noRoute) s l ≡ s
+  unfolding seek
+  fold-found l s e = fold-idle (seek arcs metres test noRoute) s l (λ ks m. meet-found metres test s (along arcs noRoute ks) e)
+
+  -- a search over all of a list, from the start
+  pub fold-outcome : (all : List (List ℕ)) → Outcome arcs metres test all (foldl (seek arcs metres test noRoute) (record { found = false; passed = 0; route = noRoute }) all)
+  unfolding routeOf
+  fold-outcome all = go (first-or-none all)
+    where
+      s : Sought
+      s = record { found = false; passed = 0; route = noRoute }
+
+      end : List (List ℕ) → Sought
+      end l = foldl (seek arcs metres test noRoute) s l
+
+      counted : List (List ℕ) → ℕ
+      counted l = min (length (keep (asLong arcs metres) l)) mostAllowance
+
+      found : (f : First arcs metres test all) → end all ≡ record { found = true; passed = counted (f .before); route = routeOf arcs (f .ks) }
+      found f =
+          ap end (f .place)
+          ∙ foldl-append (seek arcs metres test noRoute) s (f .before) (f .ks ∷ f .after)
+          ∙ ap (λ (r : Sought). foldl (seek arcs metres test noRoute) r (f .ks ∷ f .after)) (fold-none (f .before) s (counted (f .before)) refl (omega arith) (f .none-before) (omega arith))
+          ∙ ap (λ (r : Sought). foldl (seek arcs metres test noRoute) r (f .after)) (seek-all _ (f .ks) ∙ meet-wanted metres test _ (routeOf arcs (f .ks)) refl (f .length-is) (f .passes))
+          ∙ fold-found (f .after) _ refl
+
+      go : First arcs metres test all ⊎ NonePasses arcs metres test all → Outcome arcs metres test all (end all)
+      go (inl f) = Outcome.first f (ap (λ (r : Sought). r .found) (found f)) (ap (λ (r : Sought). r .passed) (found f)) (ap (λ (r : Sought). r .route) (found f))
+      go (inr n) = Outcome.nowhere n (ap (λ (r : Sought). r .found) (fold-none all s (counted all) refl (omega arith) n (omega arith)))
 
 -- ---- from the source
 
@@ -44,11 +144,33 @@ module _ (net : List ℕ) (words : Net net) where
       ap (λ (n : ℕ). grow arcs terminal (suc n) (with 0 source) source) (unmet-one source (words .source-node))
       ∙ grow-enough arcs terminal (λ k h. omega (arith, sound-at arcs (words .sound) k h .head-node)) 31 (with 0 source) source (omega (arith, unmet-one source (words .source-node)))
 
-  -- the test of a main, by a search of its standbys from what was read as the source
-  pub wanted-main : (w : Want) (risks : ℕ) {least at met : ℕ} → w .as_main ≡ true → at ≡ source → met ≡ with 0 at
-      → least ≡ foldl (offer arcs (wordAt net reachAt) risks 0 0) (w .key + 1) (grow arcs terminal (suc (unmet 32 met)) met at)
-      → eqb least (w .key) ≡ isWanted arcs source terminal (wordAt net reachAt) w risks
-  unfolding isWanted
-  wanted-main w risks m e f l =
-      let g : grow arcs terminal (suc (unmet 32 (with 0 source))) (with 0 source) source ≡ allFrom arcs source terminal = grow-all in
-      rw (m, isWanted) (ap (λ (x : ℕ). eqb x (w .key)) (l ∙ rw (f, e, g)))
+  module _ (w : Want) {at met : ℕ} (at-source : at ≡ source) (met-source : met ≡ with 0 at) where
+    -- what a search over all that grows from what was read as the source comes to
+    all-read : grow arcs terminal (suc (unmet 32 met)) met at ≡ allFrom arcs source terminal
+    all-read = let g : grow arcs terminal (suc (unmet 32 (with 0 source))) (with 0 source) source ≡ allFrom arcs source terminal = grow-all in rw (met-source, at-source, g)
+
+    -- the test of a main, by a search of its standbys
+    pub wanted-main : (risks : ℕ) {least : ℕ} → w .as_main ≡ true
+        → least ≡ foldl (offer arcs (wordAt net reachAt) risks 0 0) (w .key + 1) (grow arcs terminal (suc (unmet 32 met)) met at)
+        → eqb least (w .key) ≡ isWanted arcs source terminal (wordAt net reachAt) w risks
+    unfolding isWanted
+    wanted-main risks m l = rw (m, isWanted) (ap (λ (x : ℕ). eqb x (w .key)) (l ∙ ap (foldl (offer arcs (wordAt net reachAt) risks 0 0) (w .key + 1)) all-read))
+
+    module _ (t : Track) (held : Holds t noRoute) where
+      pub ready-first : InRange w → Ready net w at met t
+      unfolding routeIn
+      ready-first range =
+          record {
+            words = words;
+            range = range;
+            node = omega (arith, words .source-node);
+            goes-on = λ e. words .ends-differ (sym at-source ∙ e);
+            fit = held .fit;
+            room = omega (arith, fit-count t (held .fit), ap (λ (r : Route). length (r .arcs)) (held .route), unmet-one source (words .source-node), ap (unmet 32) met-source, ap (λ (v : ℕ). unmet 32 (with 0 v)) at-source);
+            not-past = omega (arith, ap (λ (r : Route). r .metres) (held .route));
+          }
+
+      pub first-outcome : (test : ℕ → Bool) {r : Sought}
+          → r ≡ foldl (seek arcs (w .metres) test (routeIn t)) (record { found = false; passed = 0; route = routeIn t }) (grow arcs terminal (suc (unmet 32 met)) met at)
+          → Outcome arcs (w .metres) test (allFrom arcs source terminal) r
+      first-outcome test e = rw (e, all-read, held .route) (fold-outcome arcs (w .metres) test (allFrom arcs source terminal))

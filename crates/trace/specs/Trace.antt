@@ -66,6 +66,9 @@ meet metres test s r =
     else record { found = false; passed = min (s .passed + 1) mostAllowance; route = s .route })
     else s)
 
+abbrev pub asLong : List Arc → ℕ → List ℕ → Bool
+asLong arcs metres ks = eqb (metresOf arcs ks) metres
+
 module _ (arcs : List Arc) (metres : ℕ) (test : ℕ → Bool) where
   -- after one more list: `behind` lies behind, ks ahead
   unfoldable pub seek : Route → Sought → List ℕ → Sought
@@ -77,8 +80,8 @@ module _ (arcs : List Arc) (metres : ℕ) (test : ℕ → Bool) where
   abbrev pub NonePasses : List (List ℕ) → Type 0
   NonePasses l = (ks : List ℕ) → List·Memᴰ ks l → metresOf arcs ks ≡ metres → test (risksOf arcs ks) ≡ false
 
-  -- the first list of the wanted length that passes, and how many of that length stand before it, as far as they are counted
-  pub record First (all : List (List ℕ)) (s : Sought) : Type 0 where
+  -- the first list of the wanted length that passes
+  pub record First (all : List (List ℕ)) : Type 0 where
     pub before : List (List ℕ)
     pub ks : List ℕ
     pub after : List (List ℕ)
@@ -86,12 +89,11 @@ module _ (arcs : List Arc) (metres : ℕ) (test : ℕ → Bool) where
     pub length-is : metresOf arcs ks ≡ metres
     pub passes : test (risksOf arcs ks) ≡ true
     pub none-before : NonePasses before
-    pub counted : s .passed ≡ min (length (keep (λ js. eqb (metresOf arcs js) metres) before)) mostAllowance
-    pub route-is : s .route ≡ routeOf arcs ks
 
+  -- what a search over all of them comes to: the first that passes, with how many of that length stand before it, or none
   pub data Outcome (all : List (List ℕ)) (s : Sought) : Type 0 where
-    first : s .found ≡ true → First all s → Outcome all s
-    nowhere : s .found ≡ false → NonePasses all → Outcome all s
+    first : (f : First all) → s .found ≡ true → s .passed ≡ min (length (keep (asLong arcs metres) (f .before))) mostAllowance → s .route ≡ routeOf arcs (f .ks) → Outcome all s
+    nowhere : NonePasses all → s .found ≡ false → Outcome all s
 
 -- ---- the code's search
 

@@ -29,7 +29,7 @@ returns c =
     let k = c .before in
     let m = k .before .before in
     let s = m .before .before .before .before in
-    wanted-main (s .args .net .now) (s .pre .0) (s .args .want) (s .args .risks) (m .before .before .if1 .taken) (m .before .source .ensures .0) (m .with .ensures) (k .least-key .ensures)
+    wanted-main (s .args .net .now) (s .pre .0) (s .args .want) (m .before .source .ensures .0) (m .with .ensures) (s .args .risks) (m .before .before .if1 .taken) (k .least-key .ensures)
 
 shared-count-requires : tie.Need-shared-count-requires
 shared-count-requires c κs = search needs
