@@ -25,7 +25,7 @@ use Rattle.track.specs.declared.Track.{Track}
 use Rattle.track.specs.Track.{routeIn, Holds}
 use Rattle.track.proofs.FitLaws.{fit-count}
 use Rattle.trace.specs.declared.Want.{Want}
-use Rattle.trace.specs.Trace.{allFrom, isWanted, InRange, Sought, along, meet, seek, asLong, NonePasses, First, Outcome, Ready}
+use Rattle.trace.specs.Trace.{allIn, isWanted, wantedIn, InRange, Sought, along, meet, seek, asLong, NonePasses, First, Outcome, Ready}
 use Rattle.trace.proofs.TraceLaws.{along-is, meet-found, meet-other, meet-wanted, meet-passed}
 
 -- ---- a search over a whole list
@@ -139,20 +139,20 @@ module _ (net : List ℕ) (words : Net net) where
   terminal = wordAt net terminalAt
 
   -- what a search from the source goes over is all there is
-  pub grow-all : grow arcs terminal (suc (unmet 32 (with 0 source))) (with 0 source) source ≡ allFrom arcs source terminal
+  pub grow-all : grow arcs terminal (suc (unmet 32 (with 0 source))) (with 0 source) source ≡ allIn net
   grow-all =
       ap (λ (n : ℕ). grow arcs terminal (suc n) (with 0 source) source) (unmet-one source (words .source-node))
       ∙ grow-enough arcs terminal (λ k h. omega (arith, sound-at arcs (words .sound) k h .head-node)) 31 (with 0 source) source (omega (arith, unmet-one source (words .source-node)))
 
   module _ (w : Want) {at met : ℕ} (at-source : at ≡ source) (met-source : met ≡ with 0 at) where
     -- what a search over all that grows from what was read as the source comes to
-    all-read : grow arcs terminal (suc (unmet 32 met)) met at ≡ allFrom arcs source terminal
-    all-read = let g : grow arcs terminal (suc (unmet 32 (with 0 source))) (with 0 source) source ≡ allFrom arcs source terminal = grow-all in rw (met-source, at-source, g)
+    all-read : grow arcs terminal (suc (unmet 32 met)) met at ≡ allIn net
+    all-read = let g : grow arcs terminal (suc (unmet 32 (with 0 source))) (with 0 source) source ≡ allIn net = grow-all in rw (met-source, at-source, g)
 
     -- the test of a main, by a search of its standbys
     pub wanted-main : (risks : ℕ) {least : ℕ} → w .as_main ≡ true
         → least ≡ foldl (offer arcs (wordAt net reachAt) risks 0 0) (w .key + 1) (grow arcs terminal (suc (unmet 32 met)) met at)
-        → eqb least (w .key) ≡ isWanted arcs source terminal (wordAt net reachAt) w risks
+        → eqb least (w .key) ≡ wantedIn net w risks
     unfolding isWanted
     wanted-main risks m l = rw (m, isWanted) (ap (λ (x : ℕ). eqb x (w .key)) (l ∙ ap (foldl (offer arcs (wordAt net reachAt) risks 0 0) (w .key + 1)) all-read))
 
@@ -172,5 +172,5 @@ module _ (net : List ℕ) (words : Net net) where
 
       pub first-outcome : (test : ℕ → Bool) {r : Sought}
           → r ≡ foldl (seek arcs (w .metres) test (routeIn t)) (record { found = false; passed = 0; route = routeIn t }) (grow arcs terminal (suc (unmet 32 met)) met at)
-          → Outcome arcs (w .metres) test (allFrom arcs source terminal) r
-      first-outcome test e = rw (e, all-read, held .route) (fold-outcome arcs (w .metres) test (allFrom arcs source terminal))
+          → Outcome arcs (w .metres) test (allIn net) r
+      first-outcome test e = rw (e, all-read, held .route) (fold-outcome arcs (w .metres) test (allIn net))

@@ -26,7 +26,7 @@ use Rattle.track.proofs.FitLaws.{fit-count}
 use Rattle.trace.specs.declared.Hop.{Hop}
 use Rattle.trace.specs.declared.Want.{Want}
 use Rattle.trace.specs.declared.Found.{Found}
-use Rattle.trace.specs.Trace.{isWanted, InRange, Sought, soughtIn, along, meet, seek, Looked, Ready}
+use Rattle.trace.specs.Trace.{wantedIn, InRange, Sought, soughtIn, along, meet, seek, Looked, Ready}
 
 -- ---- one more route
 
@@ -146,7 +146,7 @@ module _ (net : List ℕ) (w : Want) (at met : ℕ) (t : Track) where
   terminal = wordAt net terminalAt
 
   abbrev test : ℕ → Bool
-  test = isWanted arcs (wordAt net sourceAt) terminal (wordAt net reachAt) w
+  test = wantedIn net w
 
   -- what is left from arc i on, and what all that grows from `at` makes of a search
   abbrev rest : ℕ → Found → Sought

@@ -13,7 +13,7 @@ use Rattle.problem.specs.declared.Arc.{Arc}
 use Rattle.problem.specs.Table.{lastNode, mostArcs, mostReach, mostAllowance}
 use Rattle.problem.specs.Routes.{arcAt, metresOf, risksOf, grow, Route, routeOf}
 use Rattle.keys.specs.Keys.{standbyKey}
-use Rattle.net.specs.Net.{terminalAt, wordAt, Net}
+use Rattle.net.specs.Net.{terminalAt, reachAt, sourceAt, wordAt, arcsIn, Net}
 use Rattle.standby.specs.Standby.{offer}
 use Rattle.track.specs.declared.Track.{Track}
 use Rattle.track.specs.Track.{routeIn, Fit, onward}
@@ -35,12 +35,19 @@ isWanted arcs source terminal reach w risks =
     then eqb (foldl (offer arcs reach risks 0 0) (w .key + 1) (allFrom arcs source terminal)) (w .key)
     else eqb (standbyKey (onesIn 64 (bitAnd (w .main) risks)) (w .metres)) (w .key)
 
+-- over the words of a net
+abbrev pub allIn : List ℕ → List (List ℕ)
+allIn net = allFrom (arcsIn net) (wordAt net sourceAt) (wordAt net terminalAt)
+
+abbrev pub wantedIn : List ℕ → Want → ℕ → Bool
+wantedIn net w = isWanted (arcsIn net) (wordAt net sourceAt) (wordAt net terminalAt) (wordAt net reachAt) w
+
 -- no route and no key is larger
 pub record InRange (w : Want) : Type 0 where
   pub metres-range : w .metres ≤ mostReach
   pub key-range : w .key < 65 * 2 ^ 32
 
--- ---- the search, route by route
+-- ---- what is found
 
 -- the search so far: whether the route was found, how many of the wanted length came before it, and the route
 pub record Sought : Type 0 where
@@ -51,31 +58,10 @@ pub record Sought : Type 0 where
 abbrev pub soughtIn : Found → Sought
 soughtIn f = record { found = f .found; passed = f .passed; route = routeIn (f .track) }
 
--- the route that goes on over the arcs ks, one after the other
-unfoldable pub along : List Arc → Route → List ℕ → Route
-along arcs r [] = r
-along arcs r (k ∷ ks) = along arcs (onward r k (arcAt arcs k)) ks
-
--- after one more route; once found, nothing changes
-unfoldable pub meet : ℕ → (ℕ → Bool) → Sought → Route → Sought
-meet metres test s r =
-    if s .found then s
-    else (if eqb (r .metres) metres
-    then (if test (r .risks)
-    then record { found = true; passed = s .passed; route = r }
-    else record { found = false; passed = min (s .passed + 1) mostAllowance; route = s .route })
-    else s)
-
 abbrev pub asLong : List Arc → ℕ → List ℕ → Bool
 asLong arcs metres ks = eqb (metresOf arcs ks) metres
 
 module _ (arcs : List Arc) (metres : ℕ) (test : ℕ → Bool) where
-  -- after one more list: `behind` lies behind, ks ahead
-  unfoldable pub seek : Route → Sought → List ℕ → Sought
-  seek behind s ks = meet metres test s (along arcs behind ks)
-
-  -- ---- what is found
-
   -- no list of the wanted length passes
   abbrev pub NonePasses : List (List ℕ) → Type 0
   NonePasses l = (ks : List ℕ) → List·Memᴰ ks l → metresOf arcs ks ≡ metres → test (risksOf arcs ks) ≡ false
@@ -90,10 +76,31 @@ module _ (arcs : List Arc) (metres : ℕ) (test : ℕ → Bool) where
     pub passes : test (risksOf arcs ks) ≡ true
     pub none-before : NonePasses before
 
-  -- what a search over all of them comes to: the first that passes, with how many of that length stand before it, or none
+  -- what a search over all of them comes to: the route of the first that passes, and how many of that length stand before it; or none
   pub data Outcome (all : List (List ℕ)) (s : Sought) : Type 0 where
     first : (f : First all) → s .found ≡ true → s .passed ≡ min (length (keep (asLong arcs metres) (f .before))) mostAllowance → s .route ≡ routeOf arcs (f .ks) → Outcome all s
     nowhere : NonePasses all → s .found ≡ false → Outcome all s
+
+-- ---- the search, route by route
+
+-- after one more route; once found, nothing changes
+unfoldable pub meet : ℕ → (ℕ → Bool) → Sought → Route → Sought
+meet metres test s r =
+    if s .found then s
+    else (if eqb (r .metres) metres
+    then (if test (r .risks)
+    then record { found = true; passed = s .passed; route = r }
+    else record { found = false; passed = min (s .passed + 1) mostAllowance; route = s .route })
+    else s)
+
+-- the route that goes on over the arcs ks, one after the other
+unfoldable pub along : List Arc → Route → List ℕ → Route
+along arcs r [] = r
+along arcs r (k ∷ ks) = along arcs (onward r k (arcAt arcs k)) ks
+
+-- after one more list: `behind` lies behind, ks ahead
+unfoldable pub seek : List Arc → ℕ → (ℕ → Bool) → Route → Sought → List ℕ → Sought
+seek arcs metres test behind s ks = meet metres test s (along arcs behind ks)
 
 -- ---- the code's search
 

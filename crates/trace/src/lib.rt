@@ -7,15 +7,16 @@ ghost use lib.ListN.{length};
 ghost use Rattle.laws.specs.Sets.{unmet};
 ghost use Rattle.problem.specs.Table.{mostArcs, mostReach, mostAllowance};
 ghost use Rattle.problem.specs.Routes.{arcAt, grow};
-ghost use Rattle.net.specs.Net.{Net, arcsIn, wordAt, nextFrom, lowerFrom, terminalAt, reachAt, sourceAt};
+ghost use Rattle.net.specs.Net.{Net, arcsIn, wordAt, nextFrom, lowerFrom, terminalAt};
 ghost use Rattle.track.specs.Track.{routeIn, Fit, Holds, onward};
-ghost use Rattle.trace.specs.Trace.{allFrom, isWanted, InRange, soughtIn, meet, seek, Outcome, Looked, Ready};
+ghost use Rattle.trace.specs.Trace.{allIn, wantedIn, InRange, soughtIn, meet, seek, Outcome, Looked, Ready};
 use problem::Arc;
 use track::Track;
 
+// No allowance is larger (01), so more are not counted.
 const MOST_PASSED: u64 = 1000000;
 
-// A wish for a route of so many metres: as a main, one whose best standby has the key; else, for a main of those risks, a standby that has it.
+// What is wanted, a route of so many metres: as a main, one whose best standby has the key; else a standby that has it, for a main of those risks.
 pub struct Want {
     pub metres: u64,
     pub key: u64,
@@ -42,7 +43,7 @@ pub struct Hop {
 // Whether a route of the wanted length that has these risks is the wanted one.
 fn wanted(net: &[u64], want: Want, risks: u64) -> bool
     requires { ⌜ Net (now net) × InRange want ⌝ }
-    ensures { λ r. ⌜ r ≡ isWanted (arcsIn (now (net .entry))) (wordAt (now (net .entry)) sourceAt) (wordAt (now (net .entry)) terminalAt) (wordAt (now (net .entry)) reachAt) want risks ⌝ }
+    ensures { λ r. ⌜ r ≡ wantedIn (now (net .entry)) want risks ⌝ }
 {
     if want.as_main {
         let source = net::source(net);
@@ -67,7 +68,7 @@ fn one_more(passed: u64) -> u64
 fn meet(net: &[u64], want: Want, t: Track, s: Found) -> Found
     requires { ⌜ Net (now net) × InRange want × Fit t × Fit (s .track) × (s .found ≡ false) ⌝ }
     ensures fit { λ r. ⌜ Fit (r .track) ⌝ }
-    ensures sought { λ r. ⌜ soughtIn r ≡ meet (want .metres) (isWanted (arcsIn (now (net .entry))) (wordAt (now (net .entry)) sourceAt) (wordAt (now (net .entry)) terminalAt) (wordAt (now (net .entry)) reachAt) want) (soughtIn s) (routeIn t) ⌝ }
+    ensures sought { λ r. ⌜ soughtIn r ≡ meet (want .metres) (wantedIn (now (net .entry)) want) (soughtIn s) (routeIn t) ⌝ }
 {
     if t.metres as u64 != want.metres {
         return s;
@@ -102,7 +103,8 @@ fn over(net: &[u64], i: u64, t: Track) -> Track
     track::extend(t, i as u8, a)
 }
 
-fn passed(next: u64) -> Hop
+// An arc passed over, and the one that comes next.
+fn no_hop(next: u64) -> Hop
     ensures { λ r. ⌜ (r .kind ≡ 0) × (r .next ≡ next) ⌝ }
 {
     Hop {
@@ -122,10 +124,10 @@ fn look(net: &[u64], most: u64, i: u64, met: u64, t: Track) -> Hop
     let next = net::next(net, i);
     let head = net::head(net, i);
     if sets::has(met, head as u8) {
-        return passed(next);
+        return no_hop(next);
     }
     if most < t.metres as u64 + net::metres(net, i) + net::lower(net, head) {
-        return passed(next);
+        return no_hop(next);
     }
     if head == net::terminal(net) {
         return Hop {
@@ -147,7 +149,7 @@ fn look(net: &[u64], most: u64, i: u64, met: u64, t: Track) -> Hop
 pub fn trace(net: &[u64], want: Want, at: u64, met: u64, t: Track, s: Found) -> Found
     requires { ⌜ Ready (now net) want at met t × Fit (s .track) ⌝ }
     ensures fit { λ r. ⌜ Fit (r .track) ⌝ }
-    ensures sought { λ r. ⌜ soughtIn r ≡ foldl (seek (arcsIn (now (net .entry))) (want .metres) (isWanted (arcsIn (now (net .entry))) (wordAt (now (net .entry)) sourceAt) (wordAt (now (net .entry)) terminalAt) (wordAt (now (net .entry)) reachAt) want) (routeIn t)) (soughtIn s) (grow (arcsIn (now (net .entry))) (wordAt (now (net .entry)) terminalAt) (suc (unmet 32 met)) met at) ⌝ }
+    ensures sought { λ r. ⌜ soughtIn r ≡ foldl (seek (arcsIn (now (net .entry))) (want .metres) (wantedIn (now (net .entry)) want) (routeIn t)) (soughtIn s) (grow (arcsIn (now (net .entry))) (wordAt (now (net .entry)) terminalAt) (suc (unmet 32 met)) met at) ⌝ }
 {
     let n = net::arc_count(net);
     let mut f = s;
@@ -172,7 +174,7 @@ pub fn trace(net: &[u64], want: Want, at: u64, met: u64, t: Track, s: Found) -> 
 pub fn first_route(net: &[u64], want: Want) -> Found
     requires { ⌜ Net (now net) × InRange want ⌝ }
     ensures fit { λ r. ⌜ Fit (r .track) ⌝ }
-    ensures first { λ r. ⌜ Outcome (arcsIn (now (net .entry))) (want .metres) (isWanted (arcsIn (now (net .entry))) (wordAt (now (net .entry)) sourceAt) (wordAt (now (net .entry)) terminalAt) (wordAt (now (net .entry)) reachAt) want) (allFrom (arcsIn (now (net .entry))) (wordAt (now (net .entry)) sourceAt) (wordAt (now (net .entry)) terminalAt)) (soughtIn r) ⌝ }
+    ensures first { λ r. ⌜ Outcome (arcsIn (now (net .entry))) (want .metres) (wantedIn (now (net .entry)) want) (allIn (now (net .entry))) (soughtIn r) ⌝ }
 {
     let source = net::source(net);
     let met = sets::with(0, source as u8);

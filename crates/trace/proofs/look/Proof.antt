@@ -23,15 +23,15 @@ cast-has c = search needs
 has-requires : tie.Need-has-requires
 has-requires c κs = search needs
 
-passed-requires : tie.Need-passed-requires
-passed-requires c κs = search needs
+no-hop-requires : tie.Need-no-hop-requires
+no-hop-requires c κs = search needs
 
 returns : tie.Need-returns
 returns c =
     let h = c .before .before in
     let s = h .before .before .before .before in (
-      c .passed .ensures .1 ∙ h .before .before .next .ensures,
-      Looked.met-before (c .passed .ensures .0) (has-met (s .args .met) (h .before .head .ensures .0) (h .has .ensures) (c .before .if1 .taken)),
+      c .no-hop .ensures .1 ∙ h .before .before .next .ensures,
+      Looked.met-before (c .no-hop .ensures .0) (has-met (s .args .met) (h .before .head .ensures .0) (h .has .ensures) (c .before .if1 .taken)),
     )
 
 cast-if2 : tie.Need-cast-if2
@@ -49,8 +49,8 @@ lower-requires c κs = search needs
 add-if2-2 : tie.Need-add-if2-2
 add-if2-2 c = search needs
 
-passed-requires-2 : tie.Need-passed-requires-2
-passed-requires-2 c κs = search needs
+no-hop-requires-2 : tie.Need-no-hop-requires-2
+no-hop-requires-2 c κs = search needs
 
 returns-2 : tie.Need-returns-2
 returns-2 c =
@@ -58,8 +58,8 @@ returns-2 c =
     let h = l .before .before .before .before in
     let s = h .before .before .before .before in
     let lower = l .lower .ensures .0 ∙ ap (λ (v : ℕ). wordAt (s .args .net .now) (lowerFrom + v)) (h .before .head .ensures .0) in (
-      c .passed2 .ensures .1 ∙ h .before .before .next .ensures,
-      Looked.too-far (c .passed2 .ensures .0) (omega (arith, lower, c .before .if2 .taken, l .before .metres .ensures .0)),
+      c .no-hop2 .ensures .1 ∙ h .before .before .next .ensures,
+      Looked.too-far (c .no-hop2 .ensures .0) (omega (arith, lower, c .before .if2 .taken, l .before .metres .ensures .0)),
     )
 
 terminal-requires : tie.Need-terminal-requires
@@ -103,14 +103,14 @@ look-spec =
     head-requires
     cast-has
     has-requires
-    passed-requires
+    no-hop-requires
     returns
     cast-if2
     metres-requires
     add-if2
     lower-requires
     add-if2-2
-    passed-requires-2
+    no-hop-requires-2
     returns-2
     terminal-requires
     returns-3
