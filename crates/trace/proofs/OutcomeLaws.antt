@@ -1,12 +1,12 @@
 -- What a search from the source finds: the first list of the wanted length that passes, and how many of that length stand before it. Assumes nothing.
-use mathlib.Core.Path.{_≡_, refl, sym, ap, ap₂, _∙_, subst}
+use mathlib.Core.Path.{_≡_, refl, sym, ap, _∙_}
 use mathlib.Core.Logic.{_⊎_, inl, inr}
 use mathlib.Core.Bool.{Bool, true, false}
-use mathlib.Core.List.{List, [], _∷_, _++_, foldl, foldl-append, List·Memᴰ, List·Memᴰ·head, List·Memᴰ·tail, List·Memᴰ·not-nil, List·Memᴰ·cases-cons}
-use Prim.Native.Nat.{ℕ, suc, _+_, _≤_, _<_, min}
+use mathlib.Core.List.{List, [], _∷_, foldl, foldl-append, List·Memᴰ, List·Memᴰ·head, List·Memᴰ·tail, List·Memᴰ·not-nil, List·Memᴰ·cases-cons}
+use Prim.Native.Nat.{ℕ, suc, _+_, _≤_, min}
 use native.Mathlib.Nat.{zero-add}
 use native.Mathlib.Omega.{arith}
-use lib.Bits.{bitOr, or-zero-l}
+use lib.Bits.{or-zero-l}
 use lib.Dec.{eqb}
 use lib.ListN.{length}
 use borrow.Author.Tests.{eqb-true, eqb-false}
@@ -15,7 +15,7 @@ use Rattle.laws.specs.Sets.{bit, with, unmet}
 use Rattle.laws.proofs.SetLaws.{bit-empty, unmet-with}
 use Rattle.problem.specs.declared.Arc.{Arc}
 use Rattle.problem.specs.Table.{lastNode, mostAllowance}
-use Rattle.problem.specs.Routes.{arcAt, metresOf, risksOf, grow, Route, routeOf}
+use Rattle.problem.specs.Routes.{metresOf, risksOf, grow, Route, routeOf}
 use Rattle.problem.specs.Pairs.{noRoute}
 use Rattle.problem.proofs.TableLaws.{sound-at}
 use Rattle.problem.proofs.GrowthLaws.{fold-idle, grow-enough}

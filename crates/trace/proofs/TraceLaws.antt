@@ -6,7 +6,6 @@ use Prim.Native.Nat.{ℕ, suc, _+_, _≤_, _<_, min}
 use native.Mathlib.Nat.{add-assoc, add-zero}
 use native.Mathlib.Omega.{arith}
 use lib.Bits.{bitOr, or-zero-r}
-use lib.Dec.{eqb}
 use lib.ListN.{length, drop, length-append}
 use borrow.Author.Tests.{eq-eqb, ne-eqb}
 use Rattle.laws.specs.Sets.{bit, with, unmet}
@@ -18,7 +17,7 @@ use Rattle.problem.proofs.TableLaws.{sound-at}
 use Rattle.problem.proofs.RouteLaws.{opens-by, opens-new}
 use Rattle.problem.proofs.GrowthLaws.{fold-idle, fold-there, grow-way, leftFrom, left-start, left-end, left-open, left-shut}
 use Rattle.chain.specs.Chain.{Next}
-use Rattle.net.specs.Net.{nextFrom, firstFrom, lowerFrom, terminalAt, reachAt, sourceAt, wordAt, arcsIn, Net}
+use Rattle.net.specs.Net.{nextFrom, firstFrom, lowerFrom, terminalAt, wordAt, arcsIn}
 use Rattle.net.proofs.NetLaws.{left-next}
 use Rattle.track.specs.declared.Track.{Track}
 use Rattle.track.specs.Track.{routeIn, Fit, Holds, onward}
@@ -26,7 +25,7 @@ use Rattle.track.proofs.FitLaws.{fit-count}
 use Rattle.trace.specs.declared.Hop.{Hop}
 use Rattle.trace.specs.declared.Want.{Want}
 use Rattle.trace.specs.declared.Found.{Found}
-use Rattle.trace.specs.Trace.{wantedIn, InRange, Sought, soughtIn, along, meet, seek, Looked, Ready}
+use Rattle.trace.specs.Trace.{wantedIn, Sought, soughtIn, along, meet, seek, Looked, Ready}
 
 -- ---- one more route
 
@@ -78,46 +77,49 @@ module _ (arcs : List Arc) (terminal metres : ℕ) (test : ℕ → Bool) (met at
   left-found i s e = fold-idle (seek arcs metres test behind) s (sprout (grow arcs terminal (unmet 32 met)) met at i (drop i arcs)) (λ ks m. meet-found metres test s (along arcs behind ks) e)
 
   module _ (i j : ℕ) (s : Sought) (inside : i < length arcs) (next : Next arcs at (i + 1) j) where
+    abbrev arc : Arc
+    arc = arcAt arcs i
+
     on : (r : Sought) → Left (i + 1) r ≡ Left j r
     on r = left-next arcs terminal (seek arcs metres test behind) (unmet 32 met) met at (i + 1) j r next
 
     -- an arc that opens: what grows behind it
-    left-past : (r : Sought) → opens met at (arcAt arcs i) ≡ true → past i (unmet 32 met) s ≡ r → Left i s ≡ Left j r
+    left-past : (r : Sought) → opens met at arc ≡ true → past i (unmet 32 met) s ≡ r → Left i s ≡ Left j r
     unfolding seek along
     left-past r o f = left-open arcs terminal (seek arcs metres test behind) (unmet 32 met) met at i s inside o ∙ ap (Left (i + 1)) f ∙ on r
 
     -- an arc that opens for nothing, or does not open
-    left-idle : (opens met at (arcAt arcs i) ≡ true → past i (unmet 32 met) s ≡ s) → Left i s ≡ Left j s
-    left-idle f = go (opens met at (arcAt arcs i)) refl
+    left-idle : (opens met at arc ≡ true → past i (unmet 32 met) s ≡ s) → Left i s ≡ Left j s
+    left-idle f = go (opens met at arc) refl
       where
-        go : (b : Bool) → opens met at (arcAt arcs i) ≡ b → Left i s ≡ Left j s
+        go : (b : Bool) → opens met at arc ≡ b → Left i s ≡ Left j s
         go true e = left-past s e (f e)
         go false e = left-shut arcs terminal (seek arcs metres test behind) (unmet 32 met) met at i s inside e ∙ on s
 
     -- a head that was met before
-    pub left-met : bit met (arcAt arcs i .head) ≡ 1 → Left i s ≡ Left j s
-    left-met e = left-idle (λ o. absurd (omega (arith, opens-new met at (arcAt arcs i) o)))
+    pub left-met : bit met (arc .head) ≡ 1 → Left i s ≡ Left j s
+    left-met e = left-idle (λ o. absurd (omega (arith, opens-new met at arc o)))
 
     -- every route over the arc is too long
-    pub left-far : (lower : ℕ) → ((ks : List ℕ) → Way arcs (arcAt arcs i .head) terminal ks → lower ≤ metresOf arcs ks) → metres < behind .metres + arcAt arcs i .metres + lower → Left i s ≡ Left j s
+    pub left-far : (lower : ℕ) → ((ks : List ℕ) → Way arcs (arc .head) terminal ks → lower ≤ metresOf arcs ks) → metres < behind .metres + arc .metres + lower → Left i s ≡ Left j s
     unfolding seek onward
     left-far lower bound h =
-        left-idle (λ o. fold-idle (seek arcs metres test over) s (grow arcs terminal (unmet 32 met) (with met (arcAt arcs i .head)) (arcAt arcs i .head))
+        left-idle (λ o. fold-idle (seek arcs metres test over) s (grow arcs terminal (unmet 32 met) (with met (arc .head)) (arc .head))
         (λ ks m. meet-other metres test s (along arcs over ks)
-        (λ e. omega (arith, ap (λ (r : Route). r .metres) (along-is arcs over ks), bound ks (grow-way arcs terminal (unmet 32 met) (with met (arcAt arcs i .head)) (arcAt arcs i .head) m)))))
+        (λ e. omega (arith, ap (λ (r : Route). r .metres) (along-is arcs over ks), bound ks (grow-way arcs terminal (unmet 32 met) (with met (arc .head)) (arc .head) m)))))
       where
         over : Route
-        over = onward behind i (arcAt arcs i)
+        over = onward behind i arc
 
-    module _ (new : bit met (arcAt arcs i .head) ≡ 0) (tail : arcAt arcs i .tail ≡ at) where
+    module _ (new : bit met (arc .head) ≡ 0) (tail : arc .tail ≡ at) where
       -- a route ends with the arc
-      pub left-ends : arcAt arcs i .head ≡ terminal → Left i s ≡ Left j (meet metres test s (onward behind i (arcAt arcs i)))
+      pub left-ends : arc .head ≡ terminal → Left i s ≡ Left j (meet metres test s (onward behind i arc))
       unfolding seek along
-      left-ends t = left-past _ (opens-by met at (arcAt arcs i) tail new) (fold-there arcs terminal _ (unmet 32 met) _ _ s t)
+      left-ends t = left-past _ (opens-by met at arc tail new) (fold-there arcs terminal _ (unmet 32 met) _ _ s t)
 
       -- routes go on from its head
-      pub left-leads : arcAt arcs i .head < 32 → Left i s ≡ Left j (past i (suc (unmet 32 (with met (arcAt arcs i .head)))) s)
-      left-leads low = left-past _ (opens-by met at (arcAt arcs i) tail new) (ap (λ (n : ℕ). past i n s) (unmet-with 32 (arcAt arcs i .head) met low new))
+      pub left-leads : arc .head < 32 → Left i s ≡ Left j (past i (suc (unmet 32 (with met (arc .head)))) s)
+      left-leads low = left-past _ (opens-by met at arc tail new) (ap (λ (n : ℕ). past i n s) (unmet-with 32 (arc .head) met low new))
 
 -- ---- the track over one arc more
 

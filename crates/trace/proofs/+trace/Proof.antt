@@ -1,7 +1,7 @@
 -- `trace::trace` meets its contract. The invariant: the search stands at an arc of the node's chain, and what is left from there on makes of what was
 -- sought so far what all that grows from the node makes of it at the start (`Rest`). The loop's measure is the arcs ahead, the recursion's the
 -- nodes not met: each arc leaves one node fewer unvisited. Assumes nothing.
-use mathlib.Core.Path.{_≡_, refl, sym, ap, _∙_}
+use mathlib.Core.Path.{_≡_}
 use native.Mathlib.Omega.{arith}
 use lib.ListN.{length}
 use Rattle.laws.specs.Sets.{unmet}

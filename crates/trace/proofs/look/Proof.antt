@@ -1,6 +1,6 @@
 -- `trace::look` meets its contract: each return is one case of `Looked`, by the tests that led there; what was read are the arc's own fields,
 -- and the lower bound is that of its head. Assumes nothing.
-use mathlib.Core.Path.{_≡_, refl, sym, ap, _∙_}
+use mathlib.Core.Path.{refl, sym, ap, _∙_}
 use Prim.Native.Nat.{ℕ, _+_}
 use native.Mathlib.Omega.{arith}
 use Rattle.laws.specs.Sets.{with}

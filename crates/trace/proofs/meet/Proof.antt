@@ -1,8 +1,7 @@
 -- `trace::meet` meets its contract: each return is one case of `meet`, by the tests that led there. Assumes nothing.
-use mathlib.Core.Path.{_≡_, sym, ap, _∙_}
-use Prim.Native.Nat.{ℕ}
+use mathlib.Core.Path.{sym, _∙_}
 use Rattle.track.specs.Track.{routeIn}
-use Rattle.trace.specs.Trace.{Sought}
+use Rattle.trace.specs.Trace.{wantedIn, soughtIn}
 use Rattle.trace.proofs.TraceLaws.{meet-other, meet-wanted, meet-passed}
 use borrow.Author.Needs.{needs}
 use Rattle.trace.proofs.meet.Statement.{statement}
@@ -15,7 +14,8 @@ returns : tie.Need-returns
 unfolding routeIn
 returns c =
     let s = c .before .before .before .before in
-    (s .pre .3, sym (meet-other _ _ _ _ (c .if1 .taken)))
+    let a = s .args in
+    (s .pre .3, sym (meet-other (a .want .metres) (wantedIn (a .net .now) (a .want)) (soughtIn (a .s)) (routeIn (a .t)) (c .if1 .taken)))
 
 wanted-requires : tie.Need-wanted-requires
 wanted-requires c κs = search needs
@@ -25,7 +25,9 @@ unfolding routeIn
 returns-2 c =
     let k = c .before in
     let s = k .before .before .before .before .before in
-    (s .pre .2, sym (meet-wanted _ _ _ _ (s .pre .4) (k .before .if1 .left) (sym (k .wanted .ensures) ∙ c .if2 .taken)))
+    let a = s .args in
+    let passes = sym (k .wanted .ensures) ∙ c .if2 .taken in
+    (s .pre .2, sym (meet-wanted (a .want .metres) (wantedIn (a .net .now) (a .want)) (soughtIn (a .s)) (routeIn (a .t)) (s .pre .4) (k .before .if1 .left) passes))
 
 one-more-requires : tie.Need-one-more-requires
 one-more-requires c κs = search needs
@@ -35,7 +37,9 @@ unfolding routeIn
 returns-3 c =
     let k = c .before .before .before in
     let s = k .before .before .before .before .before in
-    (s .pre .3, sym (meet-passed _ _ _ _ (s .pre .4) (k .before .if1 .left) (sym (k .wanted .ensures) ∙ c .before .before .if2 .left) (c .one-more .ensures)))
+    let a = s .args in
+    let fails = sym (k .wanted .ensures) ∙ c .before .before .if2 .left in
+    (s .pre .3, sym (meet-passed (a .want .metres) (wantedIn (a .net .now) (a .want)) (soughtIn (a .s)) (routeIn (a .t)) (s .pre .4) (k .before .if1 .left) fails (c .one-more .ensures)))
 
 pub meet-spec : {M : Type 1} → statement M
 meet-spec =

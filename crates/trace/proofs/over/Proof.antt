@@ -1,5 +1,5 @@
 -- `trace::over` meets its contract: of the arc handed to `extend` only the metres and risks count, and those were read. Assumes nothing.
-use mathlib.Core.Path.{_≡_, _∙_}
+use mathlib.Core.Path.{_∙_}
 use Rattle.trace.proofs.TraceLaws.{onward-same}
 use borrow.Author.Needs.{needs}
 use Rattle.trace.proofs.over.Statement.{statement}

@@ -1,5 +1,5 @@
 -- `trace::wanted` meets its contract: as a main, by the search of all standbys from the source; as a standby, by its own key. Assumes nothing.
-use mathlib.Core.Path.{_≡_, ap, _∙_}
+use mathlib.Core.Path.{ap, _∙_}
 use Prim.Native.Nat.{ℕ}
 use lib.Dec.{eqb}
 use Rattle.keys.specs.Keys.{standbyKey}
