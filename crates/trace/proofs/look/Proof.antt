@@ -5,7 +5,7 @@ use Prim.Native.Nat.{ℕ, _+_}
 use native.Mathlib.Omega.{arith}
 use Rattle.laws.specs.Sets.{with}
 use Rattle.net.specs.Net.{wordAt, lowerFrom}
-use Rattle.standby.proofs.StandbyLaws.{has-met, has-not-met}
+use Rattle.net.proofs.SearchLaws.{has-met, has-not-met}
 use Rattle.trace.specs.Trace.{Looked}
 use borrow.Author.Needs.{needs}
 use Rattle.trace.proofs.look.Statement.{statement}
