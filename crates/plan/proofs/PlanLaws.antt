@@ -54,11 +54,11 @@ source-grown net words at met e f =
 
 -- ---- the length test
 
-key-shared : (s t m : ℕ) → t < 2 ^ 27 → m < 2 ^ 26 → pairKey s t m / 2 ^ 26 / 2 ^ 27 ≡ s
+pub key-shared : (s t m : ℕ) → t < 2 ^ 27 → m < 2 ^ 26 → pairKey s t m / 2 ^ 26 / 2 ^ 27 ≡ s
 unfolding pairKey
 key-shared s t m a b = omega arith
 
-key-total : (s t m : ℕ) → t < 2 ^ 27 → m < 2 ^ 26 → pairKey s t m / 2 ^ 26 % 2 ^ 27 ≡ t
+pub key-total : (s t m : ℕ) → t < 2 ^ 27 → m < 2 ^ 26 → pairKey s t m / 2 ^ 26 % 2 ^ 27 ≡ t
 unfolding pairKey
 key-total s t m a b = omega arith
 

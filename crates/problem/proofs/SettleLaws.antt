@@ -23,7 +23,7 @@ pub record ByLength (routes : List Route) (j : ℕ) : Type 0 where
   pub long-enough : total (best routes j) ≤ 2 * getD routes (j - 1) noRoute .metres
 
 module _ (routes : List Route) where
-  by-length : {j : ℕ} → settledByLength routes j ≡ true → ByLength routes j
+  pub by-length : {j : ℕ} → settledByLength routes j ≡ true → ByLength routes j
   unfolding settledByLength
   by-length {j} h = go (eqb (sharedCount (best routes j)) (floor routes)) refl
     where

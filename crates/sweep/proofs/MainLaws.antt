@@ -29,7 +29,7 @@ use Rattle.sweep.proofs.FoldLaws.{keep-same, keep-all, keep-keep, count
 unfoldable pub between : ℕ → ℕ → Route → Bool
 between lo hi r = leb lo (r .metres) && leb (r .metres) hi
 
-between-by : (lo hi : ℕ) (r : Route) → lo ≤ r .metres → r .metres ≤ hi → between lo hi r ≡ true
+pub between-by : (lo hi : ℕ) (r : Route) → lo ≤ r .metres → r .metres ≤ hi → between lo hi r ≡ true
 unfolding between
 between-by lo hi r l h = rw (le-leb lo (r .metres) l, le-leb (r .metres) hi h)
 

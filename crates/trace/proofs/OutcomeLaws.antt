@@ -3,7 +3,7 @@ use mathlib.Core.Path.{_≡_, refl, sym, ap, _∙_}
 use mathlib.Core.Logic.{_⊎_, inl, inr}
 use mathlib.Core.Bool.{Bool, true, false}
 use mathlib.Core.List.{List, [], _∷_, foldl, foldl-append, List·Memᴰ, List·Memᴰ·head, List·Memᴰ·tail, List·Memᴰ·not-nil, List·Memᴰ·cases-cons}
-use Prim.Native.Nat.{ℕ, suc, _+_, _≤_, min}
+use Prim.Native.Nat.{ℕ, suc, _+_, _≤_, _<_, min}
 use native.Mathlib.Nat.{zero-add}
 use native.Mathlib.Omega.{arith}
 use lib.Bits.{or-zero-l}
@@ -11,40 +11,48 @@ use lib.Dec.{eqb}
 use lib.ListN.{length}
 use borrow.Author.Tests.{eqb-true, eqb-false}
 use Rattle.laws.specs.Choosing.{keep}
-use Rattle.laws.specs.Sets.{bit, with, unmet}
-use Rattle.laws.proofs.SetLaws.{bit-empty, unmet-with}
+use Rattle.laws.specs.Sets.{with, unmet}
 use Rattle.problem.specs.declared.Arc.{Arc}
-use Rattle.problem.specs.Table.{lastNode, mostAllowance}
-use Rattle.problem.specs.Routes.{metresOf, risksOf, grow, Route, routeOf}
+use Rattle.problem.specs.Table.{mostAllowance}
+use Rattle.problem.specs.Routes.{arcAt, metresOf, risksOf, grow, Route, routeOf}
 use Rattle.problem.specs.Pairs.{noRoute}
 use Rattle.problem.proofs.TableLaws.{sound-at}
-use Rattle.problem.proofs.GrowthLaws.{fold-idle, grow-enough}
+use Rattle.problem.proofs.RouteLaws.{unmet-source}
+use Rattle.problem.proofs.GrowthLaws.{fold-idle, grow-source}
 use Rattle.net.specs.Net.{terminalAt, reachAt, sourceAt, wordAt, arcsIn, Net}
 use Rattle.standby.specs.Standby.{offer}
 use Rattle.track.specs.declared.Track.{Track}
 use Rattle.track.specs.Track.{routeIn, Holds}
 use Rattle.track.proofs.FitLaws.{fit-count}
 use Rattle.trace.specs.declared.Want.{Want}
-use Rattle.trace.specs.Trace.{allIn, isWanted, wantedIn, InRange, Sought, along, meet, seek, asLong, NonePasses, First, Outcome, Ready}
+use Rattle.trace.specs.Trace.{allIn, isWanted, wantedIn, InRange, Sought, along, meet, seek, countOf, NonePasses, First, Outcome, Ready}
 use Rattle.trace.proofs.TraceLaws.{along-is, meet-found, meet-other, meet-wanted, meet-passed}
 
 -- ---- a search over a whole list
 
 module _ (arcs : List Arc) (metres : ℕ) (test : ℕ → Bool) where
-  -- a list passes, or, if it has the wanted length, does not
-  decide : (ks : List ℕ) → ((metresOf arcs ks ≡ metres) × (test (risksOf arcs ks) ≡ true)) ⊎ (metresOf arcs ks ≡ metres → test (risksOf arcs ks) ≡ false)
+  abbrev asLong : List ℕ → Bool
+  asLong ks = eqb (metresOf arcs ks) metres
+
+  abbrev Passes : List ℕ → Type 0
+  Passes ks = (metresOf arcs ks ≡ metres) × (test (risksOf arcs ks) ≡ true)
+
+  abbrev Fails : List ℕ → Type 0
+  Fails ks = metresOf arcs ks ≡ metres → test (risksOf arcs ks) ≡ false
+
+  -- a list passes, or, if it has the wanted length, fails
+  decide : (ks : List ℕ) → Passes ks ⊎ Fails ks
   decide ks = go (eqb (metresOf arcs ks) metres) refl (test (risksOf arcs ks)) refl
     where
-      go : (b : Bool) → eqb (metresOf arcs ks) metres ≡ b → (c : Bool) → test (risksOf arcs ks) ≡ c
-          → ((metresOf arcs ks ≡ metres) × (test (risksOf arcs ks) ≡ true)) ⊎ (metresOf arcs ks ≡ metres → test (risksOf arcs ks) ≡ false)
+      go : (b : Bool) → eqb (metresOf arcs ks) metres ≡ b → (c : Bool) → test (risksOf arcs ks) ≡ c → Passes ks ⊎ Fails ks
       go true e true f = inl (eqb-true (metresOf arcs ks) metres e, f)
       go true e false f = inr (λ x. f)
       go false e c f = inr (λ x. absurd (eqb-false (metresOf arcs ks) metres e x))
 
-  none-more : {ks : List ℕ} {l : List (List ℕ)} → (metresOf arcs ks ≡ metres → test (risksOf arcs ks) ≡ false) → NonePasses arcs metres test l → NonePasses arcs metres test (ks ∷ l)
+  none-more : {ks : List ℕ} {l : List (List ℕ)} → Fails ks → NonePasses arcs metres test l → NonePasses arcs metres test (ks ∷ l)
   none-more {ks} {l} f g js m = go (List·Memᴰ·cases-cons m)
     where
-      go : (js ≡ ks) ⊎ List·Memᴰ js l → metresOf arcs js ≡ metres → test (risksOf arcs js) ≡ false
+      go : (js ≡ ks) ⊎ List·Memᴰ js l → Fails js
       go (inl e) h = rw e (f (rw e at h))
       go (inr n) h = g js n h
 
@@ -53,8 +61,7 @@ module _ (arcs : List Arc) (metres : ℕ) (test : ℕ → Bool) where
   first-or-none [] = inr (λ ks m. absurd (List·Memᴰ·not-nil m))
   first-or-none (ks ∷ l) = go (decide ks) (first-or-none l)
     where
-      go : ((metresOf arcs ks ≡ metres) × (test (risksOf arcs ks) ≡ true)) ⊎ (metresOf arcs ks ≡ metres → test (risksOf arcs ks) ≡ false)
-          → First arcs metres test l ⊎ NonePasses arcs metres test l → First arcs metres test (ks ∷ l) ⊎ NonePasses arcs metres test (ks ∷ l)
+      go : Passes ks ⊎ Fails ks → First arcs metres test l ⊎ NonePasses arcs metres test l → First arcs metres test (ks ∷ l) ⊎ NonePasses arcs metres test (ks ∷ l)
       go (inl p) ih = inl (record { before = []; ks = ks; after = l; place = refl; length-is = p .0; passes = p .1; none-before = λ js m. absurd (List·Memᴰ·not-nil m) })
       go (inr p) (inl f) =
           inl (record { before = ks ∷ f .before; ks = f .ks; after = f .after; place = ap (λ (x : List (List ℕ)). ks ∷ x) (f .place); length-is = f .length-is; passes = f .passes; none-before = none-more p (f .none-before) })
@@ -66,7 +73,7 @@ module _ (arcs : List Arc) (metres : ℕ) (test : ℕ → Bool) where
   seek-all s ks = ap (meet metres test s) (along-is arcs noRoute ks ∙ rw (zero-add (metresOf arcs ks), or-zero-l (risksOf arcs ks)))
 
   -- where none passes, those of the wanted length are counted, and nothing else changes
-  fold-none : (l : List (List ℕ)) (s : Sought) (p : ℕ) → s .found ≡ false → s .passed ≤ mostAllowance → NonePasses arcs metres test l → p ≡ min (s .passed + length (keep (asLong arcs metres) l)) mostAllowance
+  fold-none : (l : List (List ℕ)) (s : Sought) (p : ℕ) → s .found ≡ false → s .passed ≤ mostAllowance → NonePasses arcs metres test l → p ≡ min (s .passed + length (keep asLong l)) mostAllowance
       → foldl (seek arcs metres test noRoute) s l ≡ record { found = false; passed = p; route = s .route }
   unfolding keep routeOf
   fold-none [] s p e b n q = let same : s .passed ≡ p = omega arith in rw (← same, ← e)
@@ -76,7 +83,7 @@ module _ (arcs : List Arc) (metres : ℕ) (test : ℕ → Bool) where
       none js m = n js (List·Memᴰ·tail m)
 
       go : (c : Bool) → eqb (metresOf arcs ks) metres ≡ c
-          → ((r : Sought) (j : ℕ) → r .found ≡ false → r .passed ≤ mostAllowance → NonePasses arcs metres test l → j ≡ min (r .passed + length (keep (asLong arcs metres) l)) mostAllowance
+          → ((r : Sought) (j : ℕ) → r .found ≡ false → r .passed ≤ mostAllowance → NonePasses arcs metres test l → j ≡ min (r .passed + length (keep asLong l)) mostAllowance
           → foldl (seek arcs metres test noRoute) r l ≡ record { found = false; passed = j; route = r .route })
           → foldl (seek arcs metres test noRoute) s (ks ∷ l) ≡ record { found = false; passed = p; route = s .route }
       go true f ih =
@@ -103,30 +110,21 @@ module _ (arcs : List Arc) (metres : ℕ) (test : ℕ → Bool) where
       end : List (List ℕ) → Sought
       end l = foldl (seek arcs metres test noRoute) s l
 
-      counted : List (List ℕ) → ℕ
-      counted l = min (length (keep (asLong arcs metres) l)) mostAllowance
-
-      found : (f : First arcs metres test all) → end all ≡ record { found = true; passed = counted (f .before); route = routeOf arcs (f .ks) }
+      found : (f : First arcs metres test all) → end all ≡ record { found = true; passed = countOf arcs metres (f .before); route = routeOf arcs (f .ks) }
       found f =
           ap end (f .place)
           ∙ foldl-append (seek arcs metres test noRoute) s (f .before) (f .ks ∷ f .after)
-          ∙ ap (λ (r : Sought). foldl (seek arcs metres test noRoute) r (f .ks ∷ f .after)) (fold-none (f .before) s (counted (f .before)) refl (omega arith) (f .none-before) (omega arith))
+          ∙ ap (λ (r : Sought). foldl (seek arcs metres test noRoute) r (f .ks ∷ f .after)) (fold-none (f .before) s (countOf arcs metres (f .before)) refl (omega arith) (f .none-before) (omega arith))
           ∙ ap (λ (r : Sought). foldl (seek arcs metres test noRoute) r (f .after)) (seek-all _ (f .ks) ∙ meet-wanted metres test _ (routeOf arcs (f .ks)) refl (f .length-is) (f .passes))
           ∙ fold-found (f .after) _ refl
 
       go : First arcs metres test all ⊎ NonePasses arcs metres test all → Outcome arcs metres test all (end all)
       go (inl f) = Outcome.first f (ap (λ (r : Sought). r .found) (found f)) (ap (λ (r : Sought). r .passed) (found f)) (ap (λ (r : Sought). r .route) (found f))
-      go (inr n) = Outcome.nowhere n (ap (λ (r : Sought). r .found) (fold-none all s (counted all) refl (omega arith) n (omega arith)))
+      go (inr n) =
+          let none = fold-none all s (countOf arcs metres all) refl (omega arith) n (omega arith) in
+          Outcome.nowhere n (ap (λ (r : Sought). r .found) none) (ap (λ (r : Sought). r .passed) none) (ap (λ (r : Sought). r .route) none)
 
 -- ---- from the source
-
-unmet-all : unmet 32 0 ≡ 32
-unfolding unmet bit
-unmet-all = refl
-
--- all but the source are still to be met
-pub unmet-one : (source : ℕ) → source ≤ lastNode → unmet 32 (with 0 source) ≡ 31
-unmet-one source low = omega (arith, unmet-all, unmet-with 32 source 0 (omega arith) (bit-empty source))
 
 module _ (net : List ℕ) (words : Net net) where
   abbrev arcs : List Arc
@@ -138,23 +136,22 @@ module _ (net : List ℕ) (words : Net net) where
   abbrev terminal : ℕ
   terminal = wordAt net terminalAt
 
-  -- what a search from the source goes over is all there is
-  pub grow-all : grow arcs terminal (suc (unmet 32 (with 0 source))) (with 0 source) source ≡ allIn net
-  grow-all =
-      ap (λ (n : ℕ). grow arcs terminal (suc n) (with 0 source) source) (unmet-one source (words .source-node))
-      ∙ grow-enough arcs terminal (λ k h. omega (arith, sound-at arcs (words .sound) k h .head-node)) 31 (with 0 source) source (omega (arith, unmet-one source (words .source-node)))
+  source-low : source < 32
+  source-low = omega (arith, words .source-node)
 
   module _ (w : Want) {at met : ℕ} (at-source : at ≡ source) (met-source : met ≡ with 0 at) where
-    -- what a search over all that grows from what was read as the source comes to
-    all-read : grow arcs terminal (suc (unmet 32 met)) met at ≡ allIn net
-    all-read = let g : grow arcs terminal (suc (unmet 32 (with 0 source))) (with 0 source) source ≡ allIn net = grow-all in rw (met-source, at-source, g)
+    -- what a search from what was read as the source goes over is all there is
+    grow-all : grow arcs terminal (suc (unmet 32 met)) met at ≡ allIn net
+    grow-all =
+        let low : (k : ℕ) → k < length arcs → arcAt arcs k .head < 32 = λ k h. omega (arith, sound-at arcs (words .sound) k h .head-node) in
+        rw (met-source, at-source) (grow-source arcs terminal low source source-low)
 
     -- the test of a main, by a search of its standbys
     pub wanted-main : (risks : ℕ) {least : ℕ} → w .as_main ≡ true
         → least ≡ foldl (offer arcs (wordAt net reachAt) risks 0 0) (w .key + 1) (grow arcs terminal (suc (unmet 32 met)) met at)
         → eqb least (w .key) ≡ wantedIn net w risks
     unfolding isWanted
-    wanted-main risks m l = rw (m, isWanted) (ap (λ (x : ℕ). eqb x (w .key)) (l ∙ ap (foldl (offer arcs (wordAt net reachAt) risks 0 0) (w .key + 1)) all-read))
+    wanted-main risks m l = rw (m, isWanted) (ap (λ (x : ℕ). eqb x (w .key)) (l ∙ ap (foldl (offer arcs (wordAt net reachAt) risks 0 0) (w .key + 1)) grow-all))
 
     module _ (t : Track) (held : Holds t noRoute) where
       pub ready-first : InRange w → Ready net w at met t
@@ -166,11 +163,11 @@ module _ (net : List ℕ) (words : Net net) where
             node = omega (arith, words .source-node);
             goes-on = λ e. words .ends-differ (sym at-source ∙ e);
             fit = held .fit;
-            room = omega (arith, fit-count t (held .fit), ap (λ (r : Route). length (r .arcs)) (held .route), unmet-one source (words .source-node), ap (unmet 32) met-source, ap (λ (v : ℕ). unmet 32 (with 0 v)) at-source);
+            room = omega (arith, fit-count t (held .fit), ap (λ (r : Route). length (r .arcs)) (held .route), unmet-source source source-low, ap (unmet 32) met-source, ap (λ (v : ℕ). unmet 32 (with 0 v)) at-source);
             not-past = omega (arith, ap (λ (r : Route). r .metres) (held .route));
           }
 
       pub first-outcome : (test : ℕ → Bool) {r : Sought}
           → r ≡ foldl (seek arcs (w .metres) test (routeIn t)) (record { found = false; passed = 0; route = routeIn t }) (grow arcs terminal (suc (unmet 32 met)) met at)
           → Outcome arcs (w .metres) test (allIn net) r
-      first-outcome test e = rw (e, all-read, held .route) (fold-outcome arcs (w .metres) test (allIn net))
+      first-outcome test e = rw (e, grow-all, held .route) (fold-outcome arcs (w .metres) test (allIn net))

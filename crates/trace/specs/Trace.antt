@@ -12,6 +12,7 @@ use Rattle.laws.specs.Sets.{bit, with, unmet}
 use Rattle.problem.specs.declared.Arc.{Arc}
 use Rattle.problem.specs.Table.{lastNode, mostArcs, mostReach, mostAllowance}
 use Rattle.problem.specs.Routes.{arcAt, metresOf, risksOf, grow, Route, routeOf}
+use Rattle.problem.specs.Pairs.{noRoute}
 use Rattle.keys.specs.Keys.{standbyKey}
 use Rattle.net.specs.Net.{terminalAt, reachAt, sourceAt, wordAt, arcsIn, Net}
 use Rattle.standby.specs.Standby.{offer}
@@ -58,8 +59,9 @@ pub record Sought : Type 0 where
 abbrev pub soughtIn : Found → Sought
 soughtIn f = record { found = f .found; passed = f .passed; route = routeIn (f .track) }
 
-abbrev pub asLong : List Arc → ℕ → List ℕ → Bool
-asLong arcs metres ks = eqb (metresOf arcs ks) metres
+-- how many of a list have so many metres, as far as they are counted: no allowance is larger
+abbrev pub countOf : List Arc → ℕ → List (List ℕ) → ℕ
+countOf arcs metres l = min (length (keep (λ ks. eqb (metresOf arcs ks) metres) l)) mostAllowance
 
 module _ (arcs : List Arc) (metres : ℕ) (test : ℕ → Bool) where
   -- no list of the wanted length passes
@@ -76,10 +78,10 @@ module _ (arcs : List Arc) (metres : ℕ) (test : ℕ → Bool) where
     pub passes : test (risksOf arcs ks) ≡ true
     pub none-before : NonePasses before
 
-  -- what a search over all of them comes to: the route of the first that passes, and how many of that length stand before it; or none
+  -- what a search over all of them comes to: the route of the first that passes, and how many of that length stand before it; or none, after all of them
   pub data Outcome (all : List (List ℕ)) (s : Sought) : Type 0 where
-    first : (f : First all) → s .found ≡ true → s .passed ≡ min (length (keep (asLong arcs metres) (f .before))) mostAllowance → s .route ≡ routeOf arcs (f .ks) → Outcome all s
-    nowhere : NonePasses all → s .found ≡ false → Outcome all s
+    first : (f : First all) → s .found ≡ true → s .passed ≡ countOf arcs metres (f .before) → s .route ≡ routeOf arcs (f .ks) → Outcome all s
+    nowhere : NonePasses all → s .found ≡ false → s .passed ≡ countOf arcs metres all → s .route ≡ noRoute → Outcome all s
 
 -- ---- the search, route by route
 

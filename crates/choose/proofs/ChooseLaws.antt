@@ -1,0 +1,50 @@
+-- From a step's tally to the reply: counting below a length, which main and which standby have the best pair's key, and what is ranked. Assumes nothing.
+use mathlib.Core.Path.{_≡_, refl, sym, ap, ap₂, _∙_, subst}
+use mathlib.Core.Logic.{_⊎_, inl, inr, _↔_}
+use mathlib.Core.Bool.{Bool, true, false, true≢false, false≢true}
+use mathlib.Core.List.{List, [], _∷_, _++_, foldl, List·Memᴰ, List·Memᴰ·head, List·Memᴰ·tail, List·Memᴰ·append-cases, List·Memᴰ·cases-cons, Memᴰ·append-left, Memᴰ·append-right}
+use Prim.Native.Nat.{ℕ, zero, suc, _+_, _*_, _-_, _/_, _%_, _^_, _≤_, _<_, min, max}
+use native.Mathlib.Omega.{arith}
+use lib.Bits.{bitAnd}
+use lib.Count.{onesIn}
+use lib.Dec.{eqb, ltb, leb}
+use lib.ListN.{length, getD, take}
+use borrow.Author.Tests.{ltb-true, ltb-false, lt-ltb, le-ltb, le-leb, lt-leb, leb-true, leb-false, eqb-true, eq-eqb}
+use Rattle.laws.specs.Choosing.{keep, lexBy, Pairwise}
+use Rattle.laws.proofs.ListLaws.{keep-none}
+use Rattle.problem.specs.Routes.{Route, routeOf, metresOf, risksOf, within, precedes, ranking}
+use Rattle.problem.specs.Pairs.{Pair, noRoute, sharedCount, total, best, settledByLength, leastSettled, ranked, verdict}
+use Rattle.problem.proofs.WindowLaws.{count, shorter, half}
+use Rattle.net.specs.Net.{terminalAt, reachAt, sourceAt, wordAt, arcsIn, Net}
+use Rattle.sweep.specs.declared.Tally.{Tally}
+use Rattle.sweep.specs.declared.Window.{Window}
+use Rattle.sweep.proofs.FoldLaws.{keep-same}
+use Rattle.sweep.proofs.SweptLaws.{sweptTally, swept-count, swept-over}
+use Rattle.plan.specs.Plan.{routesIn}
+
+-- ---- counting below a length
+
+pub count-none : (routes : List Route) → count (shorter 0) routes ≡ 0
+count-none routes = ap length (keep-none (shorter 0) routes (λ r m. le-ltb (r .metres) 0 (omega arith)))
+
+count-within : (routes : List Route) (h : ℕ) → count (within h) routes ≡ count (shorter (suc h)) routes
+unfolding within
+count-within routes h = ap length (keep-same (within h) (shorter (suc h)) routes (λ r m. go r (leb (r .metres) h) refl))
+  where
+    go : (r : Route) (b : Bool) → leb (r .metres) h ≡ b → leb (r .metres) h ≡ ltb (r .metres) (suc h)
+    go r true e = e ∙ sym (lt-ltb (r .metres) (suc h) (omega (arith, leb-true (r .metres) h e)))
+    go r false e = e ∙ sym (le-ltb (r .metres) (suc h) (omega (arith, leb-false (r .metres) h e)))
+
+pub counted-shorter : (net : List ℕ) (metres cap : ℕ) → (metres ≡ 0 → ⊥) → metres ≤ wordAt net reachAt → count (shorter metres) (routesIn net) ≤ cap → (t u : Tally) → t .ranked ≡ 0 → t .over ≡ false
+    → u ≡ sweptTally (arcsIn net) (wordAt net sourceAt) (wordAt net terminalAt) (wordAt net reachAt) (record { lo = 0; hi = metres - 1; cap = cap }) t → u .ranked ≡ count (shorter metres) (routesIn net)
+counted-shorter net metres cap pos near few t u z o e = go (u .over) refl
+  where
+    w : Window
+    w = record { lo = 0; hi = metres - 1; cap = cap }
+
+    whole : count (within (metres - 1)) (routesIn net) ≡ count (shorter metres) (routesIn net)
+    whole = count-within (routesIn net) (metres - 1) ∙ ap (λ (x : ℕ). count (shorter x) (routesIn net)) (omega (arith, pos))
+
+    go : (b : Bool) → u .over ≡ b → u .ranked ≡ count (shorter metres) (routesIn net)
+    go true f = absurd (omega (arith, swept-over (arcsIn net) (wordAt net sourceAt) (wordAt net terminalAt) (wordAt net reachAt) w t u o e (omega arith) (omega arith) f, whole))
+    go false f = omega (arith, swept-count (arcsIn net) (wordAt net sourceAt) (wordAt net terminalAt) (wordAt net reachAt) w t u o e (omega arith) (omega arith) f, count-none (routesIn net), whole)

@@ -1,0 +1,3 @@
+pub mod ChooseLaws
+pub mod RouteChoice
+pub mod EndLaws
