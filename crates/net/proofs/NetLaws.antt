@@ -31,7 +31,7 @@ from-at net (suc n) k zero h = let e : k + 0 ≡ k = omega arith in rw e
 from-at net (suc n) k (suc i) h = let e : suc k + i ≡ k + suc i = omega arith in rw (← e) (from-at net n (suc k) i (le-of-suc-le-suc h))
 
 module _ (net : List ℕ) (k : ℕ) (h : k < length (arcsIn net)) where
-  arc-is : arcAt (arcsIn net) k
+  pub arc-is : arcAt (arcsIn net) k
       ≡ record { tail = wordAt net (tailsFrom + k); head = wordAt net (headsFrom + k); spare = 0; metres = wordAt net (metresFrom + k); risks = wordAt net k }
   unfolding arcsIn
   arc-is = let e : 0 + k ≡ k = omega arith in rw e at (from-at net (wordAt net arcCountAt) 0 k (omega (arith, arcs-count net)))

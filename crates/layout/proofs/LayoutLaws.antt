@@ -1,0 +1,112 @@
+-- A table is laid out once its arcs, its nodes and its request are written one after the other: each later writing keeps the words of those before it,
+-- and the words of an arc say that arc. Assumes nothing.
+use Prim.Native.Nat.{ℕ, _+_, _*_, _≤_, _<_, _^_}
+use mathlib.Core.Bool.{Bool, true, false}
+use mathlib.Core.List.{List, []}
+use mathlib.Core.Path.{_≡_, refl, _∙_}
+use native.Mathlib.Omega.{arith}
+use lib.Bits.{and-zero-r}
+use lib.ListN.{length, getD}
+use lib.Seq.{ext-getD}
+use Rattle.problem.specs.declared.Arc.{Arc}
+use Rattle.problem.specs.Table.{lastNode, mostReach, allSound}
+use Rattle.problem.specs.Routes.{arcAt, metresOf, risksOf, Way}
+use Rattle.problem.proofs.TableLaws.{sound-at}
+use Rattle.side.specs.declared.Side.{Side}
+use Rattle.side.specs.Side.{reachedAt, metresAt, SideTable}
+use Rattle.chain.specs.Chain.{Chain}
+use Rattle.net.specs.Net.{metresFrom, headsFrom, nextFrom, tailsFrom, firstFrom, lowerFrom, arcCountAt, netSize, wordAt, arcsIn, Chained}
+use Rattle.net.proofs.NetLaws.{arcs-count, arc-is}
+use Rattle.layout.specs.Spread.{Spread, Columns}
+use Rattle.layout.specs.Layout.{arcColumn, nodeColumn, requestWords, lowerOf, LaidOut}
+
+-- ---- lower bounds
+
+abbrev lowerAt : Side → ℕ → ℕ
+lowerAt side v = lowerOf (reachedAt side v) (metresAt side v)
+
+module _ {arcs : List Arc} {terminal : ℕ} {side : Side} (table : SideTable arcs terminal 0 side) where
+  lower-reached : (v : ℕ) → reachedAt side v ≡ true → lowerAt side v ≡ metresAt side v
+  unfolding lowerOf
+  lower-reached v e = rw e
+
+  -- with no risk banned every way is free
+  lower-least : (v : ℕ) {ks : List ℕ} → Way arcs v terminal ks → lowerAt side v ≤ metresOf arcs ks
+  lower-least v {ks} w = go (reachedAt side v) refl
+    where
+      go : (b : Bool) → reachedAt side v ≡ b → lowerAt side v ≤ metresOf arcs ks
+      go true e = rw (lower-reached v e) (table .least v ks (record { way = w; free = and-zero-r (risksOf arcs ks) }))
+      go false e = absurd (table .none v e ks (record { way = w; free = and-zero-r (risksOf arcs ks) }))
+
+  lower-low : (v : ℕ) → lowerAt side v < 2 ^ 32
+  unfolding lowerOf
+  lower-low v = go (reachedAt side v) refl
+    where
+      go : (b : Bool) → reachedAt side v ≡ b → lowerAt side v < 2 ^ 32
+      go true e = rw (lower-reached v e) (omega (arith, table .most-metres v))
+      go false e = rw e (omega arith)
+
+-- ---- all words
+
+fields-say : (a : Arc) {tail head metres risks : ℕ} → tail ≡ a .tail → head ≡ a .head → a .spare ≡ 0 → metres ≡ a .metres → risks ≡ a .risks
+    → record { tail = tail; head = head; spare = 0; metres = metres; risks = risks } ≡ a
+fields-say a t h s m r = rw (t, h, ← s, m, r)
+
+module _ {arcs : List Arc} {source terminal reach : ℕ} {side : Side} {chain empty with-arcs with-nodes net : List ℕ}
+    (few : length arcs ≤ 128) (sound : allSound arcs ≡ true)
+    (source-node : source ≤ lastNode) (terminal-node : terminal ≤ lastNode) (ends-differ : source ≡ terminal → ⊥) (reach-range : reach ≤ mostReach)
+    (table : SideTable arcs terminal 0 side) (chained : Chain arcs chain) (size : length empty ≡ netSize)
+    (of-arcs : Columns (length arcs) (arcColumn arcs chain) 0 metresFrom empty with-arcs)
+    (of-nodes : Columns 32 (nodeColumn chain side) firstFrom 32 with-arcs with-nodes)
+    (of-request : Spread 4 (requestWords (length arcs) terminal reach source) arcCountAt 1 with-nodes net) where
+  arc-word : (i k j : ℕ) → i ≡ 0 + k + metresFrom * j → k < length arcs → j < 5 → wordAt net i ≡ getD (arcColumn arcs chain k) j 0
+  arc-word i k j e h l =
+      of-request .elsewhere i (λ x m q. omega arith) ∙ of-nodes .elsewhere i (λ v x m o q. omega arith) ∙ rw e (of-arcs .here k j h l)
+
+  node-word : (i v j : ℕ) → i ≡ firstFrom + v + 32 * j → v ≤ lastNode → j < 2 → wordAt net i ≡ getD (nodeColumn chain side v) j 0
+  node-word i v j e h l = of-request .elsewhere i (λ x m q. omega arith) ∙ rw e (of-nodes .here v j (omega arith) l)
+
+  lower-word : (v : ℕ) → v ≤ lastNode → wordAt net (lowerFrom + v) ≡ lowerAt side v
+  lower-word v h = node-word (lowerFrom + v) v 1 (omega arith) h (omega arith)
+
+  says-count : length (arcsIn net) ≡ length arcs
+  says-count = arcs-count net ∙ of-request .here 0 (omega arith)
+
+  says-arc : (k : ℕ) → k < length arcs → arcAt (arcsIn net) k ≡ arcAt arcs k
+  says-arc k h =
+      arc-is net k (omega (arith, says-count))
+      ∙ fields-say (arcAt arcs k)
+      (arc-word (tailsFrom + k) k 4 (omega arith) h (omega arith))
+      (arc-word (headsFrom + k) k 2 (omega arith) h (omega arith))
+      (sound-at arcs sound k h .spare-zero)
+      (arc-word (metresFrom + k) k 1 (omega arith) h (omega arith))
+      (arc-word k k 0 (omega arith) h (omega arith))
+
+  says-arcs : arcsIn net ≡ arcs
+  says-arcs = ext-getD (arcAt [] 0) (arcsIn net) arcs says-count (λ k h. says-arc k (omega (arith, says-count)))
+
+  hang-together : Chained arcs terminal net
+  hang-together = record {
+    size = of-request .size ∙ of-nodes .size ∙ of-arcs .size ∙ size;
+    few = few;
+    sound = sound;
+    terminal-node = terminal-node;
+    source-node = rw (of-request .here 3 (omega arith)) source-node;
+    ends-differ = rw (of-request .here 3 (omega arith)) ends-differ;
+    reach-range = rw (of-request .here 2 (omega arith)) reach-range;
+    next = λ k h. rw (arc-word (nextFrom + k) k 3 (omega arith) h (omega arith)) (chained .next k h);
+    first = λ v h. rw (node-word (firstFrom + v) v 0 (omega arith) h (omega arith)) (chained .first v h);
+    lower = λ v h w. rw (lower-word v h) (lower-least table v w);
+    lower-small = λ v h. rw (lower-word v h) (lower-low table v);
+    lower-terminal = lower-word terminal terminal-node ∙ lower-reached table terminal (table .entries .terminal-reached) ∙ table .entries .terminal-metres;
+  }
+
+  pub laid-out : LaidOut arcs source terminal reach side net
+  laid-out = record {
+    words = rw (says-arcs, of-request .here 1 (omega arith)) hang-together;
+    arcs-are = says-arcs;
+    terminal-is = of-request .here 1 (omega arith);
+    reach-is = of-request .here 2 (omega arith);
+    source-is = of-request .here 3 (omega arith);
+    source-lower = λ e. lower-word source source-node ∙ lower-reached table source e;
+  }

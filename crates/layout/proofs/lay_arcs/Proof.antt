@@ -1,0 +1,72 @@
+-- `layout::lay_arcs` meets its contract. The invariant: the words of the first k arcs are written. The measure: the arcs left. Assumes nothing.
+use Prim.Native.Nat.{_-_, _≤_}
+use mathlib.Core.Path.{_≡_, sym, ap₂}
+use native.Mathlib.Nat.{zero-add}
+use native.Mathlib.Omega.{arith}
+use lib.ListN.{length}
+use Rattle.problem.specs.Table.{arcsOf}
+use Rattle.problem.proofs.TableLaws.{arcs-length}
+use Rattle.net.specs.Net.{metresFrom}
+use Rattle.layout.specs.Spread.{Columns}
+use Rattle.layout.specs.Layout.{arcWords, arcColumn}
+use Rattle.layout.proofs.SpreadLaws.{columns-none, columns-more}
+use Rattle.layout.proofs.lay_arcs.Statement.{statement}
+use Rattle.layout.proofs.lay_arcs.Tie as tie
+
+abbrev Inv-loop : tie.InvT-loop
+Inv-loop net₀ table chain n k₀ net k = (k ≤ n) × Columns k (arcColumn (arcsOf table) chain) 0 metresFrom net₀ net
+
+abbrev μ-loop : tie.MeasureT-loop
+μ-loop net₀ table chain n k₀ net k = n - k
+
+loop-holds : tie.Need-loop-holds Inv-loop μ-loop
+loop-holds c = (omega arith, columns-none _ _ _ _)
+
+arc-at-requires : tie.Need-arc-at-requires Inv-loop μ-loop
+arc-at-requires c κs = omega arith
+
+next-requires : tie.Need-next-requires Inv-loop μ-loop
+next-requires c κs = (omega arith, omega arith)
+
+spread-requires : tie.Need-spread-requires Inv-loop μ-loop
+spread-requires c κs =
+    let l = c .before .before .before .before .before .before .before .before in
+    (omega arith, λ j h. omega (arith, l .loop .inv .1 .size))
+
+loop-again : tie.Need-loop-again Inv-loop μ-loop
+loop-again c =
+    let put = c .before .before in
+    let next = put .before .before .before .before .before .before in
+    let arc = next .before in
+    let l = arc .before .before in
+    (omega arith, columns-more (omega arith) (sym (zero-add (l .loop .k))) (ap₂ arcWords (arc .arc-at .ensures) (next .next .ensures)) (l .loop .inv .1) (put .spread .ensures))
+
+same-length : tie.Need-same-length Inv-loop μ-loop
+same-length c = c .before .loop .inv .1 .size
+
+returns : tie.Need-returns Inv-loop μ-loop
+returns c =
+    let l = c .before in
+    let t = l .before .before .before .before .args .table .now in
+    let e : l .loop .k ≡ length (arcsOf t) = omega (arith, arcs-length t) in
+    rw e at (l .loop .inv .1)
+
+pub lay-arcs-spec : {M : Type 1} → statement M
+lay-arcs-spec =
+    tie.close
+    (tie.spec
+    Inv-loop
+    μ-loop
+    loop-holds
+    arc-at-requires
+    next-requires
+    (λ c. omega arith)
+    (λ c. omega arith)
+    (λ c. omega arith)
+    (λ c. omega arith)
+    spread-requires
+    (λ c. omega arith)
+    (λ c. omega arith)
+    loop-again
+    same-length
+    returns)

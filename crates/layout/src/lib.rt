@@ -1,0 +1,96 @@
+// A checked table laid out in the words that searches walk over (crate net says which word stands where).
+use side::Side;
+ghost use mathlib.Core.Path.{_≡_};
+ghost use mathlib.Core.Bool.{true};
+ghost use Prim.Native.Nat.{ℕ, _+_, _*_, _≤_, _<_};
+ghost use lib.ListN.{length};
+ghost use Rattle.problem.specs.Table.{lastNode, mostReach, mostTableBytes, arcsOf, allSound};
+ghost use Rattle.side.specs.Side.{SideTable};
+ghost use Rattle.chain.specs.Chain.{chainSize};
+ghost use Rattle.net.specs.Net.{metresFrom, firstFrom, netSize};
+ghost use Rattle.layout.specs.Spread.{Spread, Columns};
+ghost use Rattle.layout.specs.Layout.{arcColumn, nodeColumn, lowerOf, LaidOut};
+
+// From one word of an arc to its next are 128, of a node 32. The nodes' words begin at 640; from 704 on stand the number of arcs and the request.
+const ARC_STEP: usize = 128;
+
+const NODE_STEP: usize = arcs::NODES;
+
+const NODES_FROM: usize = 640;
+
+const REQUEST_FROM: usize = 704;
+
+// The lower bound of a node from which no way leads on: past every reach.
+const FAR: u64 = 4000000000;
+
+// Writes values from `at` on, `step` words apart.
+fn spread(net: &mut [u64], at: usize, step: usize, values: &[u64])
+    requires { ⌜ (0 < step) × ((j : ℕ) → j < length (now values) → at + step * j < length (now net)) ⌝ }
+    ensures { λ _. ⌜ Spread (length (now (values .entry))) (now (values .entry)) at step (now (net .entry)) (now (net .exit)) ⌝ }
+{
+    let mut j = 0;
+    while j < values.len() {
+        let x = values[j];
+        net[at + step * j] = x;
+        j += 1;
+    }
+}
+
+// Writes the words of every arc: its risks, metres and head, the arc that comes next behind it, its tail.
+fn lay_arcs(net: &mut [u64], table: &[u8], chain: &[u8])
+    requires { ⌜ (length (now net) ≡ netSize) × (length (now chain) ≡ chainSize) × (length (now table) ≤ mostTableBytes) ⌝ }
+    ensures { λ _. ⌜ Columns (length (arcsOf (now (table .entry)))) (arcColumn (arcsOf (now (table .entry))) (now (chain .entry))) 0 metresFrom (now (net .entry)) (now (net .exit)) ⌝ }
+{
+    let n = table.len() / 16;
+    let mut k = 0;
+    while k < n {
+        let a = arcs::arc_at(table, k);
+        let next = chain::next(chain, k) as u64;
+        let fields = [a.risks, a.metres as u64, a.head as u64, next, a.tail as u64];
+        spread(net, k, ARC_STEP, &fields);
+        k += 1;
+    }
+}
+
+// A length that no way from a node to the terminal is shorter than, by the node's entry in the side table.
+fn lower_of(reached: bool, metres: u32) -> u64
+    ensures { λ r. ⌜ r ≡ lowerOf reached metres ⌝ }
+{
+    if reached {
+        return metres as u64;
+    }
+    FAR
+}
+
+// Writes the words of every node: its first arc and its lower bound.
+fn lay_nodes(net: &mut [u64], chain: &[u8], side: Side)
+    requires { ⌜ (length (now net) ≡ netSize) × (length (now chain) ≡ chainSize) ⌝ }
+    ensures { λ _. ⌜ Columns 32 (nodeColumn (now (chain .entry)) side) firstFrom 32 (now (net .entry)) (now (net .exit)) ⌝ }
+{
+    let mut v: u8 = 0;
+    while v <= arcs::LAST_NODE {
+        let at = v as usize;
+        let first = chain::first(chain, v) as u64;
+        let lower = lower_of(side.reached[at], side.metres[at]);
+        let fields = [first, lower];
+        spread(net, NODES_FROM + at, NODE_STEP, &fields);
+        v += 1;
+    }
+}
+
+// The table and the request as words. `side` is the side table with no risk banned.
+pub fn lay_out(table: &[u8], source: u8, terminal: u8, reach: u32, side: Side) -> [u64; 708]
+    requires { ⌜ (length (now table) ≤ mostTableBytes) × (allSound (arcsOf (now table)) ≡ true) ⌝ }
+    requires { ⌜ (source ≤ lastNode) × (terminal ≤ lastNode) × (source ≡ terminal → ⊥) × (reach ≤ mostReach) ⌝ }
+    requires { ⌜ SideTable (arcsOf (now table)) terminal 0 side ⌝ }
+    ensures { λ r. ⌜ LaidOut (arcsOf (now (table .entry))) source terminal reach side r ⌝ }
+{
+    let chain = chain::chained(table);
+    let count = table.len() / 16;
+    let mut net = [0; 708];
+    lay_arcs(&mut net, table, &chain);
+    lay_nodes(&mut net, &chain, side);
+    let request = [count as u64, terminal as u64, reach as u64, source as u64];
+    spread(&mut net, REQUEST_FROM, 1, &request);
+    net
+}
