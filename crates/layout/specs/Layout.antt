@@ -32,7 +32,7 @@ nodeWords first lower = first ∷ lower ∷ []
 abbrev pub nodeColumn : (chain : List ℕ) → Side → ℕ → List ℕ
 nodeColumn chain side v = nodeWords (firstIn chain v) (lowerOf (reachedAt side v) (metresAt side v))
 
--- the last words
+-- the words behind those: the number of arcs, then the request
 abbrev pub requestWords : (count terminal reach source : ℕ) → List ℕ
 requestWords count terminal reach source = count ∷ terminal ∷ reach ∷ source ∷ []
 

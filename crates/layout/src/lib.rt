@@ -11,7 +11,9 @@ ghost use Rattle.net.specs.Net.{metresFrom, firstFrom, netSize};
 ghost use Rattle.layout.specs.Spread.{Spread, Columns};
 ghost use Rattle.layout.specs.Layout.{arcColumn, nodeColumn, lowerOf, LaidOut};
 
-// From one word of an arc to its next are 128, of a node 32. The nodes' words begin at 640; from 704 on stand the number of arcs and the request.
+pub const WORDS: usize = 708;
+
+// The words of an arc stand 128 apart, those of a node 32. The nodes' words begin at 640; from 704 on stand the number of arcs and the request.
 const ARC_STEP: usize = 128;
 
 const NODE_STEP: usize = arcs::NODES;
@@ -79,7 +81,7 @@ fn lay_nodes(net: &mut [u64], chain: &[u8], side: Side)
 }
 
 // The table and the request as words. `side` is the side table with no risk banned.
-pub fn lay_out(table: &[u8], source: u8, terminal: u8, reach: u32, side: Side) -> [u64; 708]
+pub fn lay_out(table: &[u8], source: u8, terminal: u8, reach: u32, side: Side) -> [u64; WORDS]
     requires { ⌜ (length (now table) ≤ mostTableBytes) × (allSound (arcsOf (now table)) ≡ true) ⌝ }
     requires { ⌜ (source ≤ lastNode) × (terminal ≤ lastNode) × (source ≡ terminal → ⊥) × (reach ≤ mostReach) ⌝ }
     requires { ⌜ SideTable (arcsOf (now table)) terminal 0 side ⌝ }
@@ -87,7 +89,7 @@ pub fn lay_out(table: &[u8], source: u8, terminal: u8, reach: u32, side: Side) -
 {
     let chain = chain::chained(table);
     let count = table.len() / 16;
-    let mut net = [0; 708];
+    let mut net = [0; WORDS];
     lay_arcs(&mut net, table, &chain);
     lay_nodes(&mut net, &chain, side);
     let request = [count as u64, terminal as u64, reach as u64, source as u64];
