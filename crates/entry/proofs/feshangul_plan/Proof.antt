@@ -1,0 +1,95 @@
+-- `entry::feshangul_plan` meets its contract: each end of the code is the same end of the definitions' answer. Assumes nothing.
+use mathlib.Core.Path.{_≡_, sym, _∙_}
+use Prim.Native.Nat.{ℕ}
+use mathlib.Core.List.{List}
+use lib.ListN.{length}
+use native.Mathlib.Omega.{arith}
+use borrow.Author.Needs.{needs}
+use borrow.Author.Tests.{not-true, not-false}
+use Rattle.problem.specs.Reply.{Request, answer}
+use Rattle.problem.proofs.ReplyLaws.{Passed, refusal-passed}
+use Rattle.entry.proofs.EntryLaws.{refused, none-answered, untouched, given}
+use Rattle.entry.proofs.feshangul_plan.Statement.{statement}
+use Rattle.entry.proofs.feshangul_plan.Tie as tie
+
+abbrev request : (source terminal reach allowance : ℕ) → Request
+request source terminal reach allowance = record { source = source; terminal = terminal; reach = reach; allowance = allowance }
+
+refusal-requires : tie.Need-refusal-requires
+refusal-requires c κs = search needs
+
+returns : tie.Need-returns
+returns c =
+    let f = c .before in
+    let a = f .before .before .before .args in
+    let q = request (a .source) (a .terminal) (a .reach) (a .allowance) in
+    untouched (answer (a .table .now) q (length (a .reply .now))) (f .refusal .result) (a .reply .now) (refused (a .table .now) q (length (a .reply .now)) (f .refusal .result) (f .refusal .ensures) (c .if1 .taken))
+
+cast-plan-checked : tie.Need-cast-plan-checked
+cast-plan-checked c =
+    let f = c .before in
+    omega (arith, refusal-passed _ _ _ (sym (f .refusal .ensures) ∙ c .if1 .left) .source-node)
+
+cast-plan-checked-2 : tie.Need-cast-plan-checked-2
+cast-plan-checked-2 c =
+    let f = c .before in
+    omega (arith, refusal-passed _ _ _ (sym (f .refusal .ensures) ∙ c .if1 .left) .terminal-node)
+
+plan-checked-requires : tie.Need-plan-checked-requires
+plan-checked-requires c κs =
+    let f = c .before in
+    let p = refusal-passed _ _ _ (sym (f .refusal .ensures) ∙ c .if1 .left) in
+    (p .few-bytes, p .sound, p .source-node, p .terminal-node, p .ends-differ, p .reach-range, p .some-allowance, p .allowance-range)
+
+returns-2 : tie.Need-returns-2
+returns-2 c =
+    let m = c .before .before in
+    let g = m .before in
+    let f = g .before in
+    let a = f .before .before .before .args in
+    let q = request (a .source) (a .terminal) (a .reach) (a .allowance) in
+    untouched (answer (a .table .now) q (length (a .reply .now))) 10 (a .reply .now)
+    (none-answered (a .table .now) q (length (a .reply .now)) (sym (f .refusal .ensures) ∙ g .if1 .left) (m .plan-checked .ensures .none (not-true _ (c .if2 .taken))))
+
+write-requires : tie.Need-write-requires
+write-requires c κs =
+    let t = c .before .before in
+    let m = t .before .before in
+    let g = m .before in
+    let f = g .before in
+    let p = refusal-passed _ _ _ (sym (f .refusal .ensures) ∙ g .if1 .left) in
+    let o = m .plan-checked .ensures .some (not-false _ (t .if2 .left)) in
+    (p .room, o .main-fit, o .standby-fit)
+
+cast-result : tie.Need-cast-result
+cast-result c = search needs
+
+same-length : tie.Need-same-length
+same-length c = search needs
+
+returns-3 : tie.Need-returns-3
+returns-3 c =
+    let w = c .before .before .before in
+    let t = w .before .before .before in
+    let m = t .before .before in
+    let g = m .before in
+    let f = g .before in
+    let a = f .before .before .before .args in
+    let q = request (a .source) (a .terminal) (a .reach) (a .allowance) in
+    let o = given (a .table .now) q (length (a .reply .now)) (refusal-passed _ _ _ (sym (f .refusal .ensures) ∙ g .if1 .left)) (m .plan-checked .ensures .some (not-false _ (t .if2 .left))) (a .reply .now) in
+    (o .0, w .write .ensures ∙ o .1)
+
+pub feshangul-plan-spec : {M : Type 1} → statement M
+feshangul-plan-spec =
+    tie.close
+    (tie.spec
+    refusal-requires
+    returns
+    cast-plan-checked
+    cast-plan-checked-2
+    plan-checked-requires
+    returns-2
+    write-requires
+    cast-result
+    same-length
+    returns-3)

@@ -1,0 +1,96 @@
+// The planning entry, exported for C: it checks everything itself, plans, and writes the reply.
+use choose::Choice;
+use side::Side;
+ghost use mathlib.Core.Path.{_≡_};
+ghost use mathlib.Core.Bool.{true, false};
+ghost use Prim.Native.Nat.{_<_, _≤_};
+ghost use lib.ListN.{length};
+ghost use Rattle.problem.specs.Table.{lastNode, mostReach, mostAllowance, mostTableBytes, arcsOf, allSound};
+ghost use Rattle.problem.specs.Routes.{ranking};
+ghost use Rattle.problem.specs.Reply.{after};
+ghost use Rattle.side.specs.Side.{SideTable};
+ghost use Rattle.entry.specs.Entry.{answerTo, Planned};
+
+const NO_ROUTE: u32 = 10;
+
+// What planning makes of a call: whether there is a route, the floor, and the reply's other fields.
+pub struct Made {
+    pub found: bool,
+    pub floor: u8,
+    pub choice: Choice,
+}
+
+fn nothing() -> Made
+    ensures { λ r. ⌜ r .found ≡ false ⌝ }
+{
+    Made {
+        found: false,
+        floor: 0,
+        choice: Choice {
+            verdict: 0,
+            ranked: 0,
+            main: track::empty(),
+            standby: track::empty(),
+        },
+    }
+}
+
+// Plans where there is a route.
+fn make(table: &[u8], source: u8, terminal: u8, reach: u32, allowance: u32, side: Side) -> Made
+    requires { ⌜ (length (now table) ≤ mostTableBytes) × (allSound (arcsOf (now table)) ≡ true) × (source ≤ lastNode) × (terminal ≤ lastNode) × (source ≡ terminal → ⊥) × (reach ≤ mostReach) × (0 < allowance) × (allowance ≤ mostAllowance) ⌝ }
+    requires { ⌜ SideTable (arcsOf (now table)) terminal 0 side ⌝ }
+    requires { ⌜ 0 < length (ranking (arcsOf (now table)) source terminal reach) ⌝ }
+    ensures { λ r. ⌜ Planned (ranking (arcsOf (now (table .entry))) source terminal reach) allowance r ⌝ }
+{
+    let common = floor::common_risks(table, source, terminal, reach, side);
+    let low = sets::shared_count(common, common);
+    let net = layout::lay_out(table, source, terminal, reach, side);
+    let run = plan::plan(&net, allowance as u64, low as u64);
+    let choice = choose::choose(&net, allowance as u64, run);
+    Made {
+        found: true,
+        floor: low as u8,
+        choice: choice,
+    }
+}
+
+// Plans a call whose checks have passed. There is a route exactly where the shortest way fits the reach.
+fn plan_checked(table: &[u8], source: u8, terminal: u8, reach: u32, allowance: u32) -> Made
+    requires { ⌜ (length (now table) ≤ mostTableBytes) × (allSound (arcsOf (now table)) ≡ true) × (source ≤ lastNode) × (terminal ≤ lastNode) × (source ≡ terminal → ⊥) × (reach ≤ mostReach) × (0 < allowance) × (allowance ≤ mostAllowance) ⌝ }
+    ensures { λ r. ⌜ Planned (ranking (arcsOf (now (table .entry))) source terminal reach) allowance r ⌝ }
+{
+    let side = side::side_table(table, terminal, 0);
+    if !side.reached[source as usize] {
+        return nothing();
+    }
+    if reach < side.metres[source as usize] {
+        return nothing();
+    }
+    make(table, source, terminal, reach, allowance, side)
+}
+
+// Number 11 is looked for by nobody: no route within the reach is longer than the reach may be.
+#[no_mangle]
+pub extern "C" fn feshangul_plan(
+    table: &[u8],
+    reply: &mut [u8],
+    source: u32,
+    terminal: u32,
+    reach: u32,
+    allowance: u32,
+) -> u32
+    ensures number { λ r. ⌜ r ≡ answerTo (now (table .entry)) source terminal reach allowance (length (now (reply .entry))) .number ⌝ }
+    ensures buffer { λ _. ⌜ now (reply .exit) ≡ after (answerTo (now (table .entry)) source terminal reach allowance (length (now (reply .entry)))) (now (reply .entry)) ⌝ }
+{
+    let n = checks::refusal(table, reply.len(), source, terminal, reach, allowance);
+    if n != 0 {
+        return n;
+    }
+    let made = plan_checked(table, source as u8, terminal as u8, reach, allowance);
+    if !made.found {
+        return NO_ROUTE;
+    }
+    let c = made.choice;
+    reply::write(reply, c.verdict, made.floor, c.ranked, c.main, c.standby);
+    c.verdict as u32
+}
