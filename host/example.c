@@ -1,0 +1,86 @@
+/* A C host in small: writes a span table (mesh A of the rules), asks for a pair from node 0 to node 3, and prints
+ * it in words. Build it with the planner's archive: cc -std=c99 -I host host/example.c target/staticlib/libentry.a */
+#include "feshangul.h"
+
+#include <stdio.h>
+
+#define RISK(r) (UINT64_C(1) << (r))
+
+enum { ARCS = 5, SOURCE = 0, TERMINAL = 3, REACH = 10000, ALLOWANCE = 1000 };
+
+static void put_number(uint8_t *at, size_t bytes, uint64_t number)
+{
+    for (size_t i = 0; i < bytes; i++) {
+        at[i] = (uint8_t)(number % 256);
+        number /= 256;
+    }
+}
+
+/* Writes the record of arc number `arc` into the table. */
+static void put_arc(uint8_t *table, size_t arc, uint8_t tail, uint8_t head, uint32_t metres, uint64_t risks)
+{
+    uint8_t *record = table + arc * FESHANGUL_ARC_BYTES;
+
+    put_number(record, FESHANGUL_ARC_BYTES, 0); /* the spare bytes are to be zero */
+    record[FESHANGUL_ARC_TAIL] = tail;
+    record[FESHANGUL_ARC_HEAD] = head;
+    put_number(record + FESHANGUL_ARC_METRES, 4, metres);
+    put_number(record + FESHANGUL_ARC_RISKS, 8, risks);
+}
+
+static void print_arc(const uint8_t *table, uint32_t arc)
+{
+    printf(", arc %lu to node %d", (unsigned long)arc, table[arc * FESHANGUL_ARC_BYTES + FESHANGUL_ARC_HEAD]);
+}
+
+static void print_verdict(const uint8_t *reply)
+{
+    const char *word = feshangul_verdict(reply) == FESHANGUL_SETTLED ? "settled" : "stopped";
+
+    printf("%s; mains tried: %lu\n", word, (unsigned long)feshangul_ranked(reply));
+}
+
+static void print_shared(const uint8_t *reply)
+{
+    printf("risks shared: %lu", (unsigned long)feshangul_shared(reply));
+    for (unsigned risk = 0; risk <= FESHANGUL_RISK_MAX; risk++)
+        if (feshangul_shared_risks(reply) & RISK(risk))
+            printf(", risk %u", risk);
+    printf("; on every route: %lu\n", (unsigned long)feshangul_floor(reply));
+}
+
+static void print_routes(const uint8_t *table, const uint8_t *reply)
+{
+    printf("main: node %d", SOURCE);
+    for (uint32_t place = 0; place < feshangul_main_arcs(reply); place++)
+        print_arc(table, feshangul_main_arc(reply, place));
+    printf("; %lu metres\n", (unsigned long)feshangul_main_metres(reply));
+
+    printf("standby: node %d", SOURCE);
+    for (uint32_t place = 0; place < feshangul_standby_arcs(reply); place++)
+        print_arc(table, feshangul_standby_arc(reply, place));
+    printf("; %lu metres\n", (unsigned long)feshangul_standby_metres(reply));
+}
+
+int main(void)
+{
+    uint8_t table[ARCS * FESHANGUL_ARC_BYTES];
+    uint8_t reply[FESHANGUL_REPLY_BYTES];
+
+    put_arc(table, 0, 0, 1, 1000, RISK(0));
+    put_arc(table, 1, 1, 3, 4000, RISK(1));
+    put_arc(table, 2, 0, 2, 4000, RISK(2));
+    put_arc(table, 3, 2, 3, 1000, RISK(3));
+    put_arc(table, 4, 1, 2, 1000, RISK(4));
+
+    uint32_t number = feshangul_plan(table, sizeof table, reply, sizeof reply, SOURCE, TERMINAL, REACH,
+                                     ALLOWANCE);
+    if (number != FESHANGUL_SETTLED && number != FESHANGUL_STOPPED) {
+        printf("refused %lu; feshangul.h says what to do\n", (unsigned long)number);
+        return 1;
+    }
+    print_verdict(reply);
+    print_shared(reply);
+    print_routes(table, reply);
+    return 0;
+}

@@ -1,0 +1,201 @@
+/* Feshangul: two fibre routes, a main and a standby, that share as few risks as possible at the least total length.
+ *
+ * This header is all that a C or C++ host needs. Fill a span table, call feshangul_plan, look at the number it
+ * returns, and where that is 0 or 1 read the reply with the functions at the end. host/example.c does just that.
+ *
+ * A route is a list of arcs, each beginning where the one before ends, that meets no node twice. Routes are ranked
+ * by length, equal lengths by the first arc number that differs. The main and the standby may be the same route.
+ *
+ * Numbers of more than one byte are little-endian, in the table and in the reply, whatever the host's own order.
+ */
+#ifndef FESHANGUL_H
+#define FESHANGUL_H
+
+#include <stddef.h>
+#include <stdint.h>
+
+#ifdef __cplusplus
+extern "C" {
+#endif
+
+/* ---- Sizes and limits ------------------------------------------------------------------------------------- */
+
+#define FESHANGUL_ARC_BYTES 16u          /* one arc's record in the table */
+#define FESHANGUL_ARCS_MAX 128u          /* arcs in a table; none is allowed too */
+#define FESHANGUL_TABLE_BYTES_MAX 2048u  /* FESHANGUL_ARCS_MAX records */
+#define FESHANGUL_REPLY_BYTES 96u        /* the reply record; a longer buffer keeps its bytes from 96 on */
+#define FESHANGUL_NODE_MAX 31u           /* nodes are 0 to 31 */
+#define FESHANGUL_RISK_MAX 63u           /* risks are 0 to 63 */
+#define FESHANGUL_ROUTE_ARCS_MAX 31u     /* 32 nodes, none met twice */
+#define FESHANGUL_ARC_METRES_MAX 2000000u
+#define FESHANGUL_REACH_MAX 62000000u    /* 31 arcs of 2,000,000 metres: no route is longer */
+#define FESHANGUL_ALLOWANCE_MAX 1000000u
+
+/* ---- The span table ---------------------------------------------------------------------------------------
+ *
+ * Records of 16 bytes, one for each arc (one direction of one span), with nothing before or between them. An arc's
+ * number is its place, from 0. Parallel arcs are allowed.
+ *
+ *   bytes   field
+ *   0       tail node, 0 to 31
+ *   1       head node, 0 to 31, not the tail
+ *   2-3     zero
+ *   4-7     length in metres, 0 to 2,000,000
+ *   8-15    risks: bit r is set when risk r touches the arc, r from 0 to 63; 0 for no risk
+ */
+#define FESHANGUL_ARC_TAIL 0u
+#define FESHANGUL_ARC_HEAD 1u
+#define FESHANGUL_ARC_METRES 4u
+#define FESHANGUL_ARC_RISKS 8u
+
+/* ---- The planner ------------------------------------------------------------------------------------------ */
+
+/* Plans a pair of routes from `source` to `terminal`, and returns one of the numbers below.
+ *
+ * table, table_len   the span table; only read. NULL with 0 is an empty table.
+ * reply, reply_len   where the reply record goes, at least 96 bytes, not overlapping the table. With 0 or 1 its
+ *                    first 96 bytes are written and no others; with any other number none is.
+ * source, terminal   the two end nodes, 0 to 31, not equal.
+ * reach              how long a route may be, in metres, 0 to 62,000,000; the latter sets no limit.
+ * allowance          how many mains may be tried, in order of rank, 1 to 1,000,000. The standby may be any route.
+ *
+ * Neither pointer needs any alignment. Nothing is kept between calls. */
+uint32_t feshangul_plan(const uint8_t *table, size_t table_len, uint8_t *reply, size_t reply_len, uint32_t source,
+                        uint32_t terminal, uint32_t reach, uint32_t allowance);
+
+/* ---- Numbers returned, and what to do on each --------------------------------------------------------------
+ *
+ * With 0 and 1 a reply is written. All others are refusals: nothing was planned and the reply buffer is as it was.
+ * Of several faults the one with the smallest number is told, so mend it and ask again. Take a number that is not
+ * listed here as a refusal. */
+
+/* Settled. Use the pair: it is the first of all pairs of routes, and a larger allowance gives the same reply. */
+#define FESHANGUL_SETTLED 0u
+
+/* Stopped. The allowance ended before the pair could be called final; it is the first of the pairs whose main was
+ * tried. Use it as it is, or ask again with a larger allowance: that never gives a worse pair. */
+#define FESHANGUL_STOPPED 1u
+
+/* The table is over 2,048 bytes. Leave out arcs that cannot matter, so that 128 remain. */
+#define FESHANGUL_TABLE_LONG 2u
+
+/* The table's length is not a multiple of 16. It was cut off or padded on its way: load it again. */
+#define FESHANGUL_TABLE_TORN 3u
+
+/* The reply buffer is under 96 bytes. A fault of the host: lend FESHANGUL_REPLY_BYTES or more. */
+#define FESHANGUL_REPLY_SHORT 4u
+
+/* Source or terminal is over 31. Mend the request. */
+#define FESHANGUL_END_RANGE 5u
+
+/* Source equals terminal. Ask for two different nodes. */
+#define FESHANGUL_ENDS_EQUAL 6u
+
+/* Reach is over 62,000,000. Give FESHANGUL_REACH_MAX where no limit is meant. */
+#define FESHANGUL_REACH_RANGE 7u
+
+/* Allowance is 0 or over 1,000,000. Give FESHANGUL_ALLOWANCE_MAX where all mains are meant. */
+#define FESHANGUL_ALLOWANCE_RANGE 8u
+
+/* Some arc has a field outside its range: a node over 31, equal ends, spare bytes that are not zero, or more than
+ * 2,000,000 metres. Hold every record against the table's fields above, and have the table mended. */
+#define FESHANGUL_ARC_FAULT 9u
+
+/* No route leads from source to terminal within the reach. Tell the customer, or ask with a larger reach. */
+#define FESHANGUL_NO_ROUTE 10u
+
+/* A route of the answer is longer than 62,000,000 metres. The reach shuts this out: report it as our fault. */
+#define FESHANGUL_ROUTE_LONG 11u
+
+/* Only printed by the program `routes`, never returned by feshangul_plan: its input is under 16 bytes, or spare
+ * bytes of its request are not zero. Mend whatever wrote the input. */
+#define FESHANGUL_INPUT_FAULT 12u
+
+/* ---- The reply record, 96 bytes ----------------------------------------------------------------------------
+ *
+ *   bytes   field
+ *   0       verdict: 0 settled, 1 stopped; the number returned
+ *   1       shared count: how many risks lie on both routes
+ *   2       floor: how many risks lie on every route; no pair shares fewer
+ *   3, 4    arcs in main, in standby, 1 to 31
+ *   5-7     zero
+ *   8-11    ranked: how many mains the answer rests on
+ *   12-15   metres of main
+ *   16-19   metres of standby
+ *   20-23   zero
+ *   24-31   shared risks: bit r is set when risk r lies on both routes
+ *   32-63   arc numbers of main, from source to terminal, one byte each, then 255 to the end
+ *   64-95   arc numbers of standby, likewise
+ */
+#define FESHANGUL_REPLY_VERDICT 0u
+#define FESHANGUL_REPLY_SHARED 1u
+#define FESHANGUL_REPLY_FLOOR 2u
+#define FESHANGUL_REPLY_MAIN_ARCS 3u
+#define FESHANGUL_REPLY_STANDBY_ARCS 4u
+#define FESHANGUL_REPLY_RANKED 8u
+#define FESHANGUL_REPLY_MAIN_METRES 12u
+#define FESHANGUL_REPLY_STANDBY_METRES 16u
+#define FESHANGUL_REPLY_SHARED_RISKS 24u
+#define FESHANGUL_REPLY_MAIN 32u
+#define FESHANGUL_REPLY_STANDBY 64u
+#define FESHANGUL_NO_ARC 255u            /* stands behind a route's last arc number */
+
+/* ---- Readers ----------------------------------------------------------------------------------------------
+ *
+ * Each takes the buffer that feshangul_plan has written with number 0 or 1. */
+
+static inline uint32_t feshangul_u32(const uint8_t *at)
+{
+    return (uint32_t)at[0] | (uint32_t)at[1] << 8 | (uint32_t)at[2] << 16 | (uint32_t)at[3] << 24;
+}
+
+static inline uint64_t feshangul_u64(const uint8_t *at)
+{
+    return (uint64_t)feshangul_u32(at) | (uint64_t)feshangul_u32(at + 4) << 32;
+}
+
+/* FESHANGUL_SETTLED or FESHANGUL_STOPPED */
+static inline uint32_t feshangul_verdict(const uint8_t *reply) { return reply[FESHANGUL_REPLY_VERDICT]; }
+
+static inline uint32_t feshangul_shared(const uint8_t *reply) { return reply[FESHANGUL_REPLY_SHARED]; }
+
+static inline uint32_t feshangul_floor(const uint8_t *reply) { return reply[FESHANGUL_REPLY_FLOOR]; }
+
+static inline uint32_t feshangul_main_arcs(const uint8_t *reply) { return reply[FESHANGUL_REPLY_MAIN_ARCS]; }
+
+static inline uint32_t feshangul_standby_arcs(const uint8_t *reply) { return reply[FESHANGUL_REPLY_STANDBY_ARCS]; }
+
+static inline uint32_t feshangul_ranked(const uint8_t *reply) { return feshangul_u32(reply + FESHANGUL_REPLY_RANKED); }
+
+static inline uint32_t feshangul_main_metres(const uint8_t *reply)
+{
+    return feshangul_u32(reply + FESHANGUL_REPLY_MAIN_METRES);
+}
+
+static inline uint32_t feshangul_standby_metres(const uint8_t *reply)
+{
+    return feshangul_u32(reply + FESHANGUL_REPLY_STANDBY_METRES);
+}
+
+static inline uint64_t feshangul_shared_risks(const uint8_t *reply)
+{
+    return feshangul_u64(reply + FESHANGUL_REPLY_SHARED_RISKS);
+}
+
+/* The arc number at `place` of the main, from 0 at the source; `place` is below feshangul_main_arcs. */
+static inline uint32_t feshangul_main_arc(const uint8_t *reply, uint32_t place)
+{
+    return reply[FESHANGUL_REPLY_MAIN + place];
+}
+
+/* The arc number at `place` of the standby, from 0 at the source; `place` is below feshangul_standby_arcs. */
+static inline uint32_t feshangul_standby_arc(const uint8_t *reply, uint32_t place)
+{
+    return reply[FESHANGUL_REPLY_STANDBY + place];
+}
+
+#ifdef __cplusplus
+}
+#endif
+
+#endif
