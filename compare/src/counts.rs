@@ -1,0 +1,85 @@
+//! What the compared cases were: counted from the cases themselves, so that the counts printed are real.
+
+use crate::listing::{faults, Answer, Plan, REPLY_BYTES};
+use crate::mesh::{Case, ARC_BYTES};
+
+#[derive(Default)]
+pub struct Counts {
+    numbers: [usize; 13],
+    several_faults: usize,
+    /// Reply buffers of 0, 95, 96, 97 and more bytes.
+    buffers: [usize; 5],
+    full_tables: usize,
+    routes: usize,
+    most_routes: usize,
+    most_arcs: usize,
+    equal_lengths: usize,
+    /// J = 1, between 1 and N, and N (over 1).
+    steps: [usize; 3],
+    allowance_at_j: usize,
+    allowance_below_j: usize,
+    allowance_at_n: usize,
+    reach_at_a_length: usize,
+    sharing_over_floor: usize,
+}
+
+impl Counts {
+    /// Counts a case, or an input that is none (number 12).
+    pub fn add(&mut self, case: Option<&Case>, answer: &Answer) {
+        self.numbers[answer.number() as usize] += 1;
+        if let Some(case) = case {
+            self.add_case(case);
+            if let Answer::Planned(plan, reply) = answer {
+                self.add_plan(case, plan);
+                self.sharing_over_floor += usize::from(reply.shared > reply.floor);
+            }
+        }
+    }
+
+    fn add_case(&mut self, case: &Case) {
+        self.several_faults += usize::from(faults(case).len() > 1);
+        self.full_tables += usize::from(case.table.len() == 128 * ARC_BYTES);
+        for (count, fits) in self.buffers.iter_mut().zip([0..1, 95..96, 96..97, 97..98, 98..usize::MAX]) {
+            *count += usize::from(fits.contains(&case.reply_len));
+        }
+    }
+
+    fn add_plan(&mut self, case: &Case, plan: &Plan) {
+        let n = plan.ranking.len();
+        let (reach, allowance) = (case.request.reach, case.request.allowance as usize);
+        self.routes += n;
+        self.most_routes = self.most_routes.max(n);
+        self.most_arcs = plan.ranking.iter().map(|route| route.arcs.len()).fold(self.most_arcs, usize::max);
+        self.equal_lengths += usize::from(plan.ranking.windows(2).any(|two| two[0].metres == two[1].metres));
+        let step = if plan.settled_at == 1 { 0 } else { 1 + usize::from(plan.settled_at == n) };
+        self.steps[step] += 1;
+        self.allowance_at_j += usize::from(allowance == plan.settled_at);
+        self.allowance_below_j += usize::from(allowance + 1 == plan.settled_at);
+        self.allowance_at_n += usize::from(allowance == n);
+        self.reach_at_a_length += usize::from(plan.ranking[n - 1].metres == reach);
+    }
+
+    pub fn print(&self) {
+        let refused: Vec<String> = (2..13).map(|number| format!("{number}: {}", self.numbers[number])).collect();
+        println!("  settled {}, stopped {}; refused {}", self.numbers[0], self.numbers[1], refused.join(", "));
+        println!("  several faults at once {}; tables of 128 arcs {}", self.several_faults, self.full_tables);
+        let [none, short, exact, one_more, more] = self.buffers;
+        println!(
+            "  reply buffers of 0 bytes {none}, 95 bytes {short}, {REPLY_BYTES} bytes {exact}, 97 bytes {one_more}, \
+             more {more}"
+        );
+        println!(
+            "  routes listed {}, at most {} in a mesh, at most {} arcs in one; equal lengths in {} rankings",
+            self.routes, self.most_routes, self.most_arcs, self.equal_lengths
+        );
+        let [at_once, between, at_n] = self.steps;
+        println!(
+            "  J = 1 {at_once}, 1 < J < N {between}, J = N > 1 {at_n}; more shared than the floor {}",
+            self.sharing_over_floor
+        );
+        println!(
+            "  allowance at J {}, one below J {}, at N {}; reach at a route's length {}",
+            self.allowance_at_j, self.allowance_below_j, self.allowance_at_n, self.reach_at_a_length
+        );
+    }
+}

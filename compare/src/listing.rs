@@ -1,0 +1,316 @@
+//! Document 01 read literally: every route is listed and ranked, every pair is judged, and the answer is read off.
+//! Nothing here is clever, so that it can be held against the document line by line.
+
+use crate::mesh::{arcs_of, arcs_on_paper, number, Arc, Case, Request, ARC_BYTES};
+use std::ops::ControlFlow;
+
+pub const TABLE_BYTES_MAX: usize = 2_048;
+pub const REPLY_BYTES: usize = 96;
+pub const NODE_MAX: u32 = 31;
+pub const METRES_MAX: u32 = 2_000_000;
+pub const REACH_MAX: u32 = 62_000_000;
+pub const ALLOWANCE_MAX: u32 = 1_000_000;
+const REQUEST_BYTES: usize = 16;
+const ROUTE_BYTES: usize = 32;
+const NO_ARC: u8 = 255;
+
+// ---- Routes and their ranking ----
+
+#[derive(Clone, PartialEq, Eq, PartialOrd, Ord)]
+pub struct Route {
+    // The order of the fields is the ranking: by length, then by the first arc number that differs.
+    pub metres: u32,
+    pub arcs: Vec<u8>,
+    pub risks: u64,
+}
+
+/// The growth of routes depth first. It gives up when its patience, a number of arcs looked at, is at an end.
+struct Growth<'a> {
+    arcs: &'a [Arc],
+    terminal: u8,
+    reach: u32,
+    patience: usize,
+    routes: Vec<Route>,
+}
+
+impl Growth<'_> {
+    fn grow(&mut self, node: u8, met: &[u8], route: &Route) -> ControlFlow<()> {
+        if node == self.terminal {
+            self.routes.push(route.clone());
+            return ControlFlow::Continue(());
+        }
+        for (place, arc) in self.arcs.iter().enumerate() {
+            if arc.tail != node || met.contains(&arc.head) {
+                continue;
+            }
+            if self.patience == 0 {
+                return ControlFlow::Break(());
+            }
+            self.patience -= 1;
+            let mut longer = route.clone();
+            longer.metres += arc.metres;
+            longer.arcs.push(place as u8);
+            longer.risks |= arc.risks;
+            // No length is negative, so what is over the reach here has no route behind it.
+            if longer.metres <= self.reach {
+                self.grow(arc.head, &[met, &[arc.head]].concat(), &longer)?;
+            }
+        }
+        ControlFlow::Continue(())
+    }
+}
+
+/// All routes in their ranking, or nothing where listing them takes more than `patience` arcs looked at.
+pub fn ranking_within(patience: usize, arcs: &[Arc], request: &Request) -> Option<Vec<Route>> {
+    let source = request.source as u8;
+    let mut growth =
+        Growth { arcs, terminal: request.terminal as u8, reach: request.reach, patience, routes: Vec::new() };
+    let none = Route { metres: 0, arcs: Vec::new(), risks: 0 };
+    if growth.grow(source, &[source], &none).is_break() {
+        return None;
+    }
+    growth.routes.sort();
+    Some(growth.routes)
+}
+
+// ---- Pairs, and when a reply is settled ----
+
+/// A pair of ranks, from 1, with what it is judged by. The order of the fields is the judgement.
+#[derive(Clone, Copy, PartialEq, Eq, PartialOrd, Ord)]
+pub struct Pair {
+    pub shared: u32,
+    pub total: u32,
+    pub main: usize,
+    pub standby: usize,
+}
+
+pub struct Plan {
+    pub ranking: Vec<Route>,
+    pub floor: u32,
+    /// best(1) to best(N)
+    pub best: Vec<Pair>,
+    /// J, the least settled step
+    pub settled_at: usize,
+}
+
+fn pair(ranking: &[Route], main: usize, standby: usize) -> Pair {
+    let (p, q) = (&ranking[main - 1], &ranking[standby - 1]);
+    Pair { shared: (p.risks & q.risks).count_ones(), total: p.metres + q.metres, main, standby }
+}
+
+impl Plan {
+    /// The plan over a ranking of at least one route.
+    pub fn new(ranking: Vec<Route>) -> Plan {
+        let n = ranking.len();
+        let floor = ranking.iter().fold(u64::MAX, |common, route| common & route.risks).count_ones();
+        let mut best: Vec<Pair> = Vec::new();
+        for main in 1..=n {
+            let of_main = (1..=n).map(|standby| pair(&ranking, main, standby)).min().expect("a standby");
+            let so_far = best.last().copied().unwrap_or(of_main);
+            best.push(so_far.min(of_main));
+        }
+        let settled = |j: usize| {
+            let pair = &best[j - 1];
+            j == n || (pair.shared == floor && 2 * ranking[j - 1].metres >= pair.total)
+        };
+        let settled_at = (1..=n).find(|&j| settled(j)).expect("step N is settled");
+        Plan { ranking, floor, best, settled_at }
+    }
+
+    /// Holds the listing to what 01 and the C header say of every plan; a failure is a fault of this program.
+    fn hold_to_what_is_said(&self) {
+        // In the order of a dictionary a list stands directly before one that it is the beginning of.
+        let mut lists: Vec<&[u8]> = self.ranking.iter().map(|route| &route.arcs[..]).collect();
+        lists.sort();
+        assert!(lists.windows(2).all(|two| !two[1].starts_with(two[0])), "no route is the beginning of another");
+        assert!(self.ranking.iter().all(|route| (1..=31).contains(&route.arcs.len())), "a route has 1 to 31 arcs");
+        assert!(self.best.iter().all(|pair| pair.main <= pair.standby), "the main's rank never exceeds the standby's");
+        assert!(self.best.iter().all(|pair| pair.shared >= self.floor), "no pair shares fewer than the floor");
+        assert!(self.best[self.settled_at - 1] == self.best[self.ranking.len() - 1], "a settled pair is the first of all");
+    }
+}
+
+// ---- The reply ----
+
+pub struct Reply {
+    pub settled: bool,
+    pub shared: u32,
+    pub floor: u32,
+    pub ranked: u32,
+    pub main: Route,
+    pub standby: Route,
+}
+
+impl Reply {
+    fn from_plan(plan: &Plan, allowance: u32) -> Reply {
+        let ranked = plan.settled_at.min(allowance as usize);
+        let pair = plan.best[ranked - 1];
+        Reply {
+            settled: plan.settled_at <= allowance as usize,
+            shared: pair.shared,
+            floor: plan.floor,
+            ranked: ranked as u32,
+            main: plan.ranking[pair.main - 1].clone(),
+            standby: plan.ranking[pair.standby - 1].clone(),
+        }
+    }
+
+    pub fn shared_risks(&self) -> u64 {
+        self.main.risks & self.standby.risks
+    }
+
+    pub fn verdict(&self) -> &'static str {
+        if self.settled {
+            "settled"
+        } else {
+            "stopped"
+        }
+    }
+
+    pub fn bytes(&self) -> Vec<u8> {
+        let mut bytes = vec![u8::from(!self.settled), self.shared as u8, self.floor as u8];
+        bytes.extend([self.main.arcs.len() as u8, self.standby.arcs.len() as u8, 0, 0, 0]);
+        bytes.extend(self.ranked.to_le_bytes());
+        bytes.extend(self.main.metres.to_le_bytes());
+        bytes.extend(self.standby.metres.to_le_bytes());
+        bytes.extend([0; 4]);
+        bytes.extend(self.shared_risks().to_le_bytes());
+        for route in [&self.main, &self.standby] {
+            let mut field = route.arcs.clone();
+            field.resize(ROUTE_BYTES, NO_ARC);
+            bytes.extend(field);
+        }
+        assert_eq!(bytes.len(), REPLY_BYTES);
+        bytes
+    }
+
+    /// The three lines that the program prints.
+    fn text(&self) -> String {
+        let mut text = format!("{} {} {} {}\n", self.verdict(), self.shared, self.floor, self.ranked);
+        for (name, route) in [("main", &self.main), ("standby", &self.standby)] {
+            text += &format!("{name} {}", (route.metres + 999) / 1_000);
+            for arc in &route.arcs {
+                text += &format!(" {arc}");
+            }
+            text += "\n";
+        }
+        text
+    }
+
+    /// What 01 says of a reply in its worked cases, each fact in its words.
+    pub fn facts(&self) -> Vec<String> {
+        vec![
+            self.verdict().to_string(),
+            format!("shared {}", self.shared),
+            format!("field {}", self.shared_risks()),
+            format!("floor {}", self.floor),
+            format!("ranked {}", self.ranked),
+            format!("main {}", arcs_on_paper(&self.main.arcs)),
+            format!("standby {}", arcs_on_paper(&self.standby.arcs)),
+            format!("total {}", self.main.metres + self.standby.metres),
+        ]
+    }
+}
+
+// ---- Numbers returned, and the order of checks ----
+
+pub enum Answer {
+    Refused(u32),
+    Planned(Plan, Reply),
+}
+
+impl Answer {
+    pub fn number(&self) -> u32 {
+        match self {
+            Answer::Refused(number) => *number,
+            Answer::Planned(_, reply) => u32::from(!reply.settled),
+        }
+    }
+
+    pub fn facts(&self) -> Vec<String> {
+        match self {
+            Answer::Refused(number) => vec![format!("refused {number}")],
+            Answer::Planned(_, reply) => reply.facts(),
+        }
+    }
+
+    /// What a buffer holds after the call: written from its beginning on with a reply, untouched with a refusal.
+    pub fn buffer_after(&self, mut before: Vec<u8>) -> Vec<u8> {
+        if let Answer::Planned(_, reply) = self {
+            before[..REPLY_BYTES].copy_from_slice(&reply.bytes());
+        }
+        before
+    }
+}
+
+fn arc_faulty(arc: &Arc) -> bool {
+    let node_over = u32::from(arc.tail) > NODE_MAX || u32::from(arc.head) > NODE_MAX;
+    node_over || arc.tail == arc.head || arc.spare != 0 || arc.metres > METRES_MAX
+}
+
+/// Which of the numbers 2 to 9 apply, in order.
+pub fn faults(case: &Case) -> Vec<u32> {
+    let r = &case.request;
+    let checks = [
+        (2, case.table.len() > TABLE_BYTES_MAX),
+        (3, case.table.len() % ARC_BYTES != 0),
+        (4, case.reply_len < REPLY_BYTES),
+        (5, r.source > NODE_MAX || r.terminal > NODE_MAX),
+        (6, r.source == r.terminal),
+        (7, r.reach > REACH_MAX),
+        (8, r.allowance == 0 || r.allowance > ALLOWANCE_MAX),
+        (9, arcs_of(&case.table).iter().any(arc_faulty)),
+    ];
+    checks.iter().filter(|check| check.1).map(|check| check.0).collect()
+}
+
+pub fn answer(case: &Case) -> Answer {
+    if let Some(&first) = faults(case).first() {
+        return Answer::Refused(first);
+    }
+    let ranking = ranking_within(usize::MAX, &arcs_of(&case.table), &case.request).expect("endless patience");
+    if ranking.is_empty() {
+        return Answer::Refused(10);
+    }
+    let plan = Plan::new(ranking);
+    plan.hold_to_what_is_said();
+    let reply = Reply::from_plan(&plan, case.request.allowance);
+    if reply.main.metres.max(reply.standby.metres) > REACH_MAX {
+        return Answer::Refused(11);
+    }
+    Answer::Planned(plan, reply)
+}
+
+// ---- The program `routes` ----
+
+/// The case that an input of the program asks for, or nothing where number 12 applies.
+pub fn case_of_input(input: &[u8]) -> Option<Case> {
+    if input.len() < REQUEST_BYTES {
+        return None;
+    }
+    let (request, table) = input.split_at(REQUEST_BYTES);
+    if number(&request[2..4]) != 0 || number(&request[12..16]) != 0 {
+        return None;
+    }
+    let request = Request {
+        source: u32::from(request[0]),
+        terminal: u32::from(request[1]),
+        reach: number(&request[4..8]) as u32,
+        allowance: number(&request[8..12]) as u32,
+    };
+    Some(Case { table: table.to_vec(), reply_len: REPLY_BYTES, request })
+}
+
+pub fn answer_to_input(input: &[u8]) -> Answer {
+    match case_of_input(input) {
+        None => Answer::Refused(12),
+        Some(case) => answer(&case),
+    }
+}
+
+pub fn printed(answer: &Answer) -> String {
+    match answer {
+        Answer::Refused(number) => format!("refused {number}\n"),
+        Answer::Planned(_, reply) => reply.text(),
+    }
+}

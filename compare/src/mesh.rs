@@ -1,0 +1,146 @@
+//! Arcs, requests and cases: as bytes, and as people write them on paper (01, "Meshes worked by hand").
+
+pub const ARC_BYTES: usize = 16;
+
+/// One record of the span table, whether its fields are in range or not.
+#[derive(Clone, Copy)]
+pub struct Arc {
+    pub tail: u8,
+    pub head: u8,
+    pub spare: u16,
+    pub metres: u32,
+    pub risks: u64,
+}
+
+#[derive(Clone, Copy)]
+pub struct Request {
+    pub source: u32,
+    pub terminal: u32,
+    pub reach: u32,
+    pub allowance: u32,
+}
+
+/// One call of the entry: the table may be damaged, the buffer too short, the request out of range.
+#[derive(Clone)]
+pub struct Case {
+    pub table: Vec<u8>,
+    pub reply_len: usize,
+    pub request: Request,
+}
+
+impl Arc {
+    pub fn from_bytes(record: &[u8]) -> Arc {
+        Arc {
+            tail: record[0],
+            head: record[1],
+            spare: u16::from_le_bytes([record[2], record[3]]),
+            metres: number(&record[4..8]) as u32,
+            risks: number(&record[8..16]),
+        }
+    }
+
+    pub fn to_bytes(self) -> Vec<u8> {
+        let mut record = vec![self.tail, self.head];
+        record.extend(self.spare.to_le_bytes());
+        record.extend(self.metres.to_le_bytes());
+        record.extend(self.risks.to_le_bytes());
+        record
+    }
+
+    /// As 01 writes it: `0,1,1000,{0}`. Spare bytes that are not zero are named behind it.
+    pub fn on_paper(&self) -> String {
+        let spare = if self.spare == 0 { String::new() } else { format!("  (spare bytes hold {})", self.spare) };
+        format!("{},{},{},{}{}", self.tail, self.head, self.metres, risks_on_paper(self.risks), spare)
+    }
+}
+
+/// A little-endian number.
+pub fn number(bytes: &[u8]) -> u64 {
+    bytes.iter().rev().fold(0, |high, &byte| high * 256 + u64::from(byte))
+}
+
+pub fn table_bytes(arcs: &[Arc]) -> Vec<u8> {
+    arcs.iter().flat_map(|arc| arc.to_bytes()).collect()
+}
+
+/// The whole records of a table; bytes left over at a torn end are no arc.
+pub fn arcs_of(table: &[u8]) -> Vec<Arc> {
+    table.chunks_exact(ARC_BYTES).map(Arc::from_bytes).collect()
+}
+
+/// The set `{0,63}` of a risk field.
+pub fn risks_on_paper(risks: u64) -> String {
+    let names: Vec<String> = (0..64).filter(|r| risks >> r & 1 == 1).map(|r| r.to_string()).collect();
+    format!("{{{}}}", names.join(","))
+}
+
+/// The list `[0,4,3]` of a route's arc numbers.
+pub fn arcs_on_paper(arcs: &[u8]) -> String {
+    let names: Vec<String> = arcs.iter().map(|arc| arc.to_string()).collect();
+    format!("[{}]", names.join(","))
+}
+
+/// Reads the arcs of a mesh as 01 prints it, `0: 0,1,1000,{0}; 1: 1,3,4000,{1}`; for the fixed cases, which are right.
+pub fn from_paper(text: &str) -> Vec<Arc> {
+    let plain = |word: &str| word.trim().parse::<u64>().expect("a number");
+    let mut arcs = Vec::new();
+    for (place, line) in text.split(';').enumerate() {
+        let (name, fields) = line.split_once(':').expect("an arc number and a colon");
+        assert_eq!(plain(name), place as u64, "arcs stand in order");
+        let (ends, risks) = fields.split_once('{').expect("a risk set");
+        let ends: Vec<u64> = ends.trim().trim_end_matches(',').split(',').map(plain).collect();
+        let risks = risks.trim().trim_end_matches('}');
+        let risks = if risks.is_empty() { 0 } else { risks.split(',').map(|r| 1u64 << plain(r)).sum() };
+        arcs.push(Arc { tail: ends[0] as u8, head: ends[1] as u8, spare: 0, metres: ends[2] as u32, risks });
+    }
+    arcs
+}
+
+impl Case {
+    /// The case as a person would set it down to work it.
+    pub fn on_paper(&self) -> String {
+        let r = &self.request;
+        let mut text = format!(
+            "source {}, terminal {}, reach {}, allowance {}\ntable of {} bytes, reply buffer of {} bytes\n",
+            r.source,
+            r.terminal,
+            r.reach,
+            r.allowance,
+            self.table.len(),
+            self.reply_len
+        );
+        for (place, arc) in arcs_of(&self.table).iter().enumerate() {
+            text += &format!("{place}: {}\n", arc.on_paper());
+        }
+        let torn = self.table.chunks_exact(ARC_BYTES).remainder();
+        if !torn.is_empty() {
+            text += &format!("torn end: {torn:02x?}\n");
+        }
+        text
+    }
+
+    /// What the driver reads.
+    pub fn frame(&self) -> Vec<u8> {
+        let r = &self.request;
+        let mut frame = Vec::new();
+        for field in [self.table.len() as u32, self.reply_len as u32, r.source, r.terminal, r.reach, r.allowance] {
+            frame.extend(field.to_le_bytes());
+        }
+        frame.extend(&self.table);
+        frame
+    }
+
+    /// What the program `routes` reads, where the request fits its record.
+    pub fn input(&self) -> Option<Vec<u8>> {
+        let r = &self.request;
+        if r.source > 255 || r.terminal > 255 {
+            return None;
+        }
+        let mut input = vec![r.source as u8, r.terminal as u8, 0, 0];
+        input.extend(r.reach.to_le_bytes());
+        input.extend(r.allowance.to_le_bytes());
+        input.extend([0; 4]);
+        input.extend(&self.table);
+        Some(input)
+    }
+}

@@ -1,0 +1,404 @@
+//! Random meshes and requests from a fixed seed, small enough to list, with what goes wrong in this trade; and damage
+//! done to them, often in several places at once.
+
+use crate::listing::{
+    ranking_within, Plan, Route, ALLOWANCE_MAX, METRES_MAX, REACH_MAX, REPLY_BYTES, TABLE_BYTES_MAX,
+};
+use crate::mesh::{arcs_of, table_bytes, Arc, Case, Request, ARC_BYTES};
+
+const ARCS_MAX: usize = TABLE_BYTES_MAX / ARC_BYTES;
+/// More routes than this, or more arcs looked at in listing them, and a mesh loses an arc.
+const ROUTES_LISTED: usize = 300;
+const PATIENCE: usize = 5_000;
+
+/// The generator splitmix64: the same numbers on every machine.
+pub struct Dice(u64);
+
+impl Dice {
+    pub fn new(seed: u64) -> Dice {
+        Dice(seed)
+    }
+
+    fn roll(&mut self) -> u64 {
+        self.0 = self.0.wrapping_add(0x9E37_79B9_7F4A_7C15);
+        let mut z = self.0;
+        z = (z ^ (z >> 30)).wrapping_mul(0xBF58_476D_1CE4_E5B9);
+        z = (z ^ (z >> 27)).wrapping_mul(0x94D0_49BB_1331_11EB);
+        z ^ (z >> 31)
+    }
+
+    fn below(&mut self, bound: usize) -> usize {
+        (self.roll() % bound as u64) as usize
+    }
+
+    fn from_to(&mut self, low: usize, high: usize) -> usize {
+        low + self.below(high - low + 1)
+    }
+
+    fn percent(&mut self, chance: usize) -> bool {
+        self.below(100) < chance
+    }
+
+    fn pick<T: Copy>(&mut self, from: &[T]) -> T {
+        from[self.below(from.len())]
+    }
+
+    fn shuffle<T>(&mut self, list: &mut [T]) {
+        for last in (1..list.len()).rev() {
+            list.swap(last, self.below(last + 1));
+        }
+    }
+}
+
+// ---- The shape of a mesh: the ends of its arcs, source 0 and terminal 1 ----
+
+type Ends = Vec<(u8, u8)>;
+
+fn two_nodes(dice: &mut Dice, nodes: usize) -> (u8, u8) {
+    let tail = dice.below(nodes);
+    let head = (tail + dice.from_to(1, nodes - 1)) % nodes;
+    (tail as u8, head as u8)
+}
+
+/// Mostly as many as can still be listed.
+fn few_nodes(dice: &mut Dice) -> usize {
+    if dice.percent(30) {
+        dice.from_to(2, 5)
+    } else {
+        dice.from_to(6, 8)
+    }
+}
+
+fn scattered(dice: &mut Dice) -> Ends {
+    let nodes = few_nodes(dice);
+    let fewest = if dice.percent(10) { 0 } else { 2 * nodes };
+    let arcs = dice.from_to(fewest, 4 * nodes);
+    (0..arcs).map(|_| two_nodes(dice, nodes)).collect()
+}
+
+/// Both directions of each span, one after the other.
+fn spans(dice: &mut Dice) -> Ends {
+    let nodes = few_nodes(dice);
+    let spans = dice.from_to(nodes - 1, 2 * nodes + 2);
+    (0..spans)
+        .flat_map(|_| {
+            let (tail, head) = two_nodes(dice, nodes);
+            [(tail, head), (head, tail)]
+        })
+        .collect()
+}
+
+/// An arc from each node to each other.
+fn full(dice: &mut Dice) -> Ends {
+    let nodes = dice.from_to(3, 7) as u8;
+    (0..nodes).flat_map(|tail| (0..nodes).filter(move |&head| head != tail).map(move |head| (tail, head))).collect()
+}
+
+/// The nodes of a chain from the source to the terminal with `between` nodes on its way.
+fn chain(between: usize) -> Vec<u8> {
+    let mut nodes = vec![0];
+    nodes.extend((0..between).map(|i| i as u8 + 2));
+    nodes.push(1);
+    nodes
+}
+
+/// Bundles of parallel arcs in a row.
+fn parallel(dice: &mut Dice) -> Ends {
+    let hops = dice.from_to(1, 4);
+    let most = [ARCS_MAX, 17, 6, 4][hops - 1];
+    let mut ends = Vec::new();
+    for hop in chain(hops - 1).windows(2) {
+        for _ in 0..dice.from_to(1, most) {
+            ends.push((hop[0], hop[1]));
+        }
+    }
+    ends
+}
+
+/// A long chain, up to all 32 nodes, with a few hops doubled, a few passed over and a few walked back.
+fn long(dice: &mut Dice) -> Ends {
+    let between = if dice.percent(40) { 30 } else { dice.from_to(6, 30) };
+    let nodes = chain(between);
+    let mut ends: Ends = nodes.windows(2).map(|hop| (hop[0], hop[1])).collect();
+    for _ in 0..dice.from_to(0, 6) {
+        let at = dice.below(nodes.len() - 2);
+        ends.push(dice.pick(&[
+            (nodes[at], nodes[at + 1]),
+            (nodes[at], nodes[at + 2]),
+            (nodes[at + 1], nodes[at]),
+            (nodes[at + 2], nodes[at]),
+        ]));
+    }
+    ends
+}
+
+/// Few arcs that matter among many that mostly do not: tables as full as can be, with high arc numbers.
+fn crowded(dice: &mut Dice) -> Ends {
+    let mut ends = if dice.percent(50) { scattered(dice) } else { spans(dice) };
+    let total = if dice.percent(50) { ARCS_MAX } else { dice.from_to(ends.len(), ARCS_MAX) };
+    while ends.len() < total {
+        let other = dice.from_to(8, 31) as u8;
+        ends.push(dice.pick(&[(1, other), (other, 0), (other, 1), (other, other ^ 1), (0, other)]));
+    }
+    ends
+}
+
+// ---- Lengths and risks ----
+
+fn lengths(dice: &mut Dice, arcs: &mut [Arc]) {
+    let style = dice.below(12);
+    for arc in arcs {
+        arc.metres = match style {
+            0 => 0,
+            1 => 1_000,
+            2 => dice.pick(&[0, 1]),
+            3 => dice.pick(&[0, 0, 1_000]),
+            4 => dice.pick(&[999, 1_000, 1_001, 1_999]),
+            5 => dice.pick(&[METRES_MAX, METRES_MAX, METRES_MAX - 1]),
+            6 => dice.pick(&[1_000, 2_000, 3_000]),
+            7..=9 => dice.from_to(0, 20) as u32,
+            _ => dice.from_to(0, METRES_MAX as usize) as u32,
+        };
+    }
+}
+
+fn risks(dice: &mut Dice, arcs: &mut [Arc]) {
+    let style = dice.below(14);
+    let common = 1 << dice.below(64);
+    for (place, arc) in arcs.iter_mut().enumerate() {
+        let one = 1 << dice.below(64);
+        let of_few = 1 << dice.below(5);
+        arc.risks = match style {
+            0 => 0,
+            1 => one,
+            2 => 1 << (place % 64),
+            3 => dice.roll() & (1 | 1 << 63),
+            4 => dice.pick(&[u64::MAX, u64::MAX - 1, u64::MAX >> 1, one, 0]),
+            5 => dice.roll(),
+            6 => dice.roll() & dice.roll() & dice.roll(),
+            7 => of_few | common,
+            8 if arc.tail == 0 || arc.head == 1 => of_few | common, // ducts at the door
+            8 => one,
+            9..=11 => dice.roll() & dice.roll() & 0xFF << 56,
+            _ => dice.pick(&[0, of_few, of_few | one]),
+        };
+    }
+}
+
+/// Gives both directions of each span the same length and risks, as most tables have them.
+fn pair_directions(arcs: &mut [Arc]) {
+    for two in arcs.chunks_exact_mut(2) {
+        if two[0].tail == two[1].head && two[0].head == two[1].tail {
+            two[1].metres = two[0].metres;
+            two[1].risks = two[0].risks;
+        }
+    }
+}
+
+/// Spreads the mesh over the 32 node numbers; returns those of source and terminal.
+fn rename_nodes(dice: &mut Dice, arcs: &mut [Arc]) -> (u32, u32) {
+    let mut names: Vec<u8> = (0..32).collect();
+    dice.shuffle(&mut names);
+    for arc in arcs {
+        arc.tail = names[usize::from(arc.tail)];
+        arc.head = names[usize::from(arc.head)];
+    }
+    (u32::from(names[0]), u32::from(names[1]))
+}
+
+/// Takes arcs away until all routes can be listed, and returns them in their ranking.
+fn make_listable(dice: &mut Dice, arcs: &mut Vec<Arc>, request: &Request) -> Vec<Route> {
+    loop {
+        match ranking_within(PATIENCE, arcs, request) {
+            Some(ranking) if ranking.len() <= ROUTES_LISTED => return ranking,
+            _ => arcs.remove(dice.below(arcs.len())),
+        };
+    }
+}
+
+// ---- A sound case ----
+
+fn mesh(dice: &mut Dice) -> (Vec<Arc>, u32, u32) {
+    let ends = match dice.below(16) {
+        0..=4 => scattered(dice),
+        5..=8 => spans(dice),
+        9..=10 => full(dice),
+        11..=12 => parallel(dice),
+        13 => long(dice),
+        _ => crowded(dice),
+    };
+    let mut arcs: Vec<Arc> =
+        ends.iter().map(|&(tail, head)| Arc { tail, head, spare: 0, metres: 0, risks: 0 }).collect();
+    arcs.truncate(ARCS_MAX);
+    lengths(dice, &mut arcs);
+    risks(dice, &mut arcs);
+    if dice.percent(50) {
+        pair_directions(&mut arcs);
+    }
+    if dice.percent(50) {
+        dice.shuffle(&mut arcs);
+    }
+    let (source, terminal) = rename_nodes(dice, &mut arcs);
+    (arcs, source, terminal)
+}
+
+/// A reach at, one below or one above a route's length, or a free one.
+fn reach(dice: &mut Dice, ranking: &[Route]) -> u32 {
+    if ranking.is_empty() {
+        return dice.pick(&[0, 1, 10_000, REACH_MAX]);
+    }
+    let some = ranking[dice.below(ranking.len())].metres;
+    let (shortest, longest) = (ranking[0].metres, ranking[ranking.len() - 1].metres);
+    let free = dice.from_to(0, longest as usize + 1) as u32;
+    let chosen = match dice.below(20) {
+        0..=4 => some,
+        5..=7 => some.saturating_sub(1),
+        8 => some + 1,
+        9 => shortest,
+        10 => shortest.saturating_sub(1),
+        11 => longest,
+        12 => free,
+        _ => REACH_MAX,
+    };
+    chosen.min(REACH_MAX)
+}
+
+/// An allowance at or beside N or J, one that is small, or the largest.
+fn allowance(dice: &mut Dice, n: usize, settled_at: usize) -> u32 {
+    let at = match dice.below(16) {
+        0..=2 => settled_at,
+        3..=6 => settled_at - 1,
+        7 => settled_at + 1,
+        8 => n,
+        9 => n - 1,
+        10 => n + 1,
+        11 => 1,
+        12 => 2,
+        13..=14 => dice.from_to(1, n),
+        _ => ALLOWANCE_MAX as usize,
+    };
+    at.max(1) as u32
+}
+
+/// A buffer that a reply fits into, now and then one whose length needs more than 16 bits.
+fn reply_len(dice: &mut Dice) -> usize {
+    match dice.below(100) {
+        0 => 70_000,
+        1..=30 => dice.pick(&[97, 98, 100, 127, 128, 192, 256, 1_000, 4_096]),
+        _ => REPLY_BYTES,
+    }
+}
+
+/// A case with no fault; it may have no route.
+fn sound(dice: &mut Dice) -> Case {
+    loop {
+        let (mut arcs, source, terminal) = mesh(dice);
+        let mut request = Request { source, terminal, reach: REACH_MAX, allowance: ALLOWANCE_MAX };
+        let mut ranking = make_listable(dice, &mut arcs, &request);
+        request.reach = reach(dice, &ranking);
+        ranking.retain(|route| route.metres <= request.reach);
+        let n = ranking.len();
+        let settled_at = if n == 0 { 1 } else { Plan::new(ranking).settled_at };
+        // No route, or a pair settled by the first main, says little; most of these are passed over.
+        if settled_at == 1 && dice.percent(70) {
+            continue;
+        }
+        request.allowance = allowance(dice, n.max(1), settled_at);
+        return Case { table: table_bytes(&arcs), reply_len: reply_len(dice), request };
+    }
+}
+
+// ---- Damage ----
+
+fn damage_arc(dice: &mut Dice, case: &mut Case) {
+    let mut arcs = arcs_of(&case.table);
+    if arcs.is_empty() {
+        return;
+    }
+    let anywhere = dice.below(arcs.len());
+    let place = dice.pick(&[0, arcs.len() - 1, anywhere]);
+    let arc = &mut arcs[place];
+    match dice.below(5) {
+        0 => arc.tail = dice.pick(&[32, 33, 64, 255]),
+        1 => arc.head = dice.pick(&[32, 33, 64, 255]),
+        2 => arc.head = arc.tail,
+        3 => arc.spare = dice.pick(&[1, 128, 256, 32_768, 65_535]),
+        _ => arc.metres = dice.pick(&[METRES_MAX + 1, 1 << 24, 1 << 31, u32::MAX]),
+    }
+    let torn = case.table.chunks_exact(ARC_BYTES).remainder().to_vec();
+    case.table = [table_bytes(&arcs), torn].concat();
+}
+
+fn lengthen(dice: &mut Dice, table: &mut Vec<u8>, bytes: usize) {
+    while table.len() < bytes {
+        // Mostly copies of what is there, so that the added bytes have no fault of their own.
+        let byte = if table.len() >= ARC_BYTES { table[table.len() - ARC_BYTES] } else { dice.roll() as u8 };
+        table.push(byte);
+    }
+}
+
+fn damage_table(dice: &mut Dice, case: &mut Case) {
+    let bytes = case.table.len();
+    match dice.below(4) {
+        0 => {
+            let over = dice.pick(&[2_049, 2_064, 2_063, 4_096]);
+            lengthen(dice, &mut case.table, over);
+        }
+        // A length whose low 16 bits are those of the sound table.
+        1 => lengthen(dice, &mut case.table, bytes % 65_536 + 65_536),
+        2 => {
+            let torn = bytes + dice.from_to(1, 15);
+            lengthen(dice, &mut case.table, torn);
+        }
+        _ => case.table.truncate(bytes.saturating_sub(dice.from_to(1, 15))),
+    }
+}
+
+fn damage_request(dice: &mut Dice, request: &mut Request) {
+    let over = dice.pick(&[32, 33, 255, 256, 256 + request.source, 1 << 31, u32::MAX]);
+    match dice.below(7) {
+        0 => request.source = over,
+        1 => request.terminal = over,
+        2 => request.terminal = request.source,
+        3 => (request.source, request.terminal) = (over, over),
+        4 => request.reach = dice.pick(&[REACH_MAX + 1, 1 << 26, 1 << 31, u32::MAX]),
+        5 => request.allowance = 0,
+        _ => request.allowance = dice.pick(&[ALLOWANCE_MAX + 1, 1 << 20, 1 << 31, u32::MAX]),
+    }
+}
+
+fn damage(dice: &mut Dice, case: &mut Case) {
+    for _ in 0..dice.from_to(1, 4) {
+        match dice.below(8) {
+            0 => case.reply_len = dice.pick(&[0, 0, 1, 31, 64, 95, 95]),
+            1..=2 => damage_table(dice, case),
+            3..=4 => damage_arc(dice, case),
+            _ => damage_request(dice, &mut case.request),
+        }
+    }
+}
+
+// ---- What is compared ----
+
+pub fn case(dice: &mut Dice) -> Case {
+    let mut case = sound(dice);
+    if dice.percent(25) {
+        damage(dice, &mut case);
+    }
+    case
+}
+
+/// An input of the program: a case, now and then with damage that only an input can have.
+pub fn input(dice: &mut Dice) -> Vec<u8> {
+    let mut input = loop {
+        if let Some(input) = case(dice).input() {
+            break input;
+        }
+    };
+    if dice.percent(4) {
+        input.truncate(dice.below(16));
+    } else if dice.percent(8) {
+        input[dice.pick(&[2, 3, 12, 13, 14, 15])] = dice.pick(&[1, 128, 255]);
+    }
+    input
+}
