@@ -13,10 +13,11 @@ pub struct Given {
     pub buffer: Vec<u8>,
 }
 
-/// Answers in the order of the cases, fewer where the driver stopped; and what the driver said of its run.
+/// Answers in the order of the cases, fewer where the driver stopped; what it said of its run, and how it ended.
 pub struct Answers {
     pub given: Vec<Given>,
     pub said: String,
+    pub ended_well: bool,
 }
 
 /// What the driver fills a reply buffer with before its first call.
@@ -54,10 +55,11 @@ pub fn driver(command: &[String], cases: &[Case]) -> Answers {
     drop(from);
     let output = child.wait_with_output().expect("the driver's end");
     let mut said = String::from_utf8_lossy(&output.stderr).trim_end().to_string();
-    if !output.status.success() {
-        said += &format!("\nthe driver's end: {}", output.status);
+    let ended_well = output.status.success();
+    if !ended_well {
+        said += &format!(" ({})", output.status);
     }
-    Answers { given, said }
+    Answers { given, said, ended_well }
 }
 
 /// Runs the program on an input and returns everything that it printed; an end by a signal is told behind it.

@@ -83,7 +83,7 @@ fn compare_calls(count: u64, seed: u64, command: &[String]) -> bool {
     if let Some(&first) = differing.first() {
         show_call(command, &all[first]);
     }
-    differing.is_empty()
+    differing.is_empty() && answers.ended_well
 }
 
 fn show_call(command: &[String], case: &Case) {
