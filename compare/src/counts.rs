@@ -1,6 +1,6 @@
 //! What the compared cases were: counted from the cases themselves, so that the counts printed are real.
 
-use crate::listing::{faults, Answer, Plan, REPLY_BYTES};
+use crate::listing::{faults, Answer, Plan};
 use crate::mesh::{Case, ARC_BYTES};
 
 #[derive(Default)]
@@ -64,10 +64,10 @@ impl Counts {
         println!("  settled {}, stopped {}; refused {}", self.numbers[0], self.numbers[1], refused.join(", "));
         println!("  several faults at once {}; tables of 128 arcs {}", self.several_faults, self.full_tables);
         let [none, short, exact, one_more, more] = self.buffers;
-        println!(
-            "  reply buffers of 0 bytes {none}, 95 bytes {short}, {REPLY_BYTES} bytes {exact}, 97 bytes {one_more}, \
-             more {more}"
-        );
+        // The program has one buffer of its own.
+        if none + short + one_more + more > 0 {
+            println!("  reply buffers of 0 {none}, 95 {short}, 96 {exact}, 97 {one_more}, more bytes {more}");
+        }
         println!(
             "  routes listed {}, at most {} in a mesh, at most {} arcs in one; equal lengths in {} rankings",
             self.routes, self.most_routes, self.most_arcs, self.equal_lengths
