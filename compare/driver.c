@@ -41,7 +41,7 @@ static const char *const round_words[ROUNDS] = {
 };
 
 static uint8_t *table_room, *reply_room;
-static unsigned long cases, calls;
+static unsigned long cases, calls, null_calls;
 static enum round current; /* for messages */
 
 static void stop(const char *what)
@@ -191,10 +191,13 @@ int main(void)
     for (; read_case(&r, table); cases++) {
         uint32_t number = call_planner(&r, table, ENDING, reply);
         call_again(&r, table, BEGINNING, number, reply);
-        if (r.table_len == 0 || r.reply_len == 0)
+        if (r.table_len == 0 || r.reply_len == 0) {
             call_again(&r, table, NOWHERE, number, reply);
+            null_calls++;
+        }
         write_answer(number, reply, r.reply_len);
     }
-    fprintf(stderr, "driver: %lu cases, %lu calls, no byte touched outside table and reply\n", cases, calls);
+    fprintf(stderr, "driver: %lu cases, %lu calls (%lu with NULL), no byte touched outside table and reply\n", cases,
+            calls, null_calls);
     return 0;
 }

@@ -3,10 +3,8 @@
 use crate::listing::{answer, answer_to_input, printed, ALLOWANCE_MAX, METRES_MAX, REACH_MAX, REPLY_BYTES};
 use crate::mesh::{from_paper, table_bytes, Arc, Case, Request};
 
-pub const MESH_A: &str =
-    "0: 0,1,1000,{0}; 1: 1,3,4000,{1}; 2: 0,2,4000,{2}; 3: 2,3,1000,{3}; 4: 1,2,1000,{4}";
-const MESH_B: &str =
-    "0: 0,3,1000,{0,1,2}; 1: 0,1,1000,{0}; 2: 0,2,1000,{1,2}; 3: 2,1,1000,{3}; 4: 1,3,1000,{1,2}";
+const MESH_A: &str = "0: 0,1,1000,{0}; 1: 1,3,4000,{1}; 2: 0,2,4000,{2}; 3: 2,3,1000,{3}; 4: 1,2,1000,{4}";
+const MESH_B: &str = "0: 0,3,1000,{0,1,2}; 1: 0,1,1000,{0}; 2: 0,2,1000,{1,2}; 3: 2,1,1000,{3}; 4: 1,3,1000,{1,2}";
 const MESH_C: &str = "0: 0,1,1000,{0}; 1: 0,1,1000,{1}";
 const ARC_D1: &str = "0: 0,1,1000,{0}";
 const ARC_D2: &str = "0: 0,1,1000,{}";

@@ -126,7 +126,10 @@ impl Plan {
         assert!(self.ranking.iter().all(|route| (1..=31).contains(&route.arcs.len())), "a route has 1 to 31 arcs");
         assert!(self.best.iter().all(|pair| pair.main <= pair.standby), "the main's rank never exceeds the standby's");
         assert!(self.best.iter().all(|pair| pair.shared >= self.floor), "no pair shares fewer than the floor");
-        assert!(self.best[self.settled_at - 1] == self.best[self.ranking.len() - 1], "a settled pair is the first of all");
+        assert!(
+            self.best[self.settled_at - 1] == self.best[self.ranking.len() - 1],
+            "a settled pair is the first of all"
+        );
     }
 }
 

@@ -29,14 +29,12 @@ const SLOW_EVERY: usize = 200;
 
 fn main() {
     let words: Vec<String> = std::env::args().skip(1).collect();
-    let whole = |word: &String| word.parse::<u64>().unwrap_or_else(|_| usage());
-    let compare = match words.first().map(|word| word.as_str()) {
-        Some("listing") if words.len() == 1 => None,
-        Some("calls") if words.len() > 3 => Some(compare_calls as fn(u64, u64, &[String]) -> bool),
-        Some("texts") if words.len() > 3 => Some(compare_texts as fn(u64, u64, &[String]) -> bool),
+    let same = match (words.first().map(String::as_str), words.len()) {
+        (Some("listing"), 1) => hold_listing(),
+        (Some("calls"), 4..) => hold_listing() && compare_calls(whole(&words[1]), whole(&words[2]), &words[3..]),
+        (Some("texts"), 4..) => hold_listing() && compare_texts(whole(&words[1]), whole(&words[2]), &words[3..]),
         _ => usage(),
     };
-    let same = hold_listing() && compare.map_or(true, |run| run(whole(&words[1]), whole(&words[2]), &words[3..]));
     exit(i32::from(!same));
 }
 
@@ -45,13 +43,18 @@ fn usage() -> ! {
     exit(2)
 }
 
+fn whole(word: &str) -> u64 {
+    word.parse().unwrap_or_else(|_| usage())
+}
+
 /// Nothing is compared with a listing that does not give what 01 says.
 fn hold_listing() -> bool {
-    match cases::hold_listing() {
+    let held = cases::hold_listing();
+    match &held {
         Ok(rows) => println!("listing: {rows} worked rows come out as they are said to"),
         Err(wrong) => println!("listing: {wrong}"),
     }
-    cases::hold_listing().is_ok()
+    held.is_ok()
 }
 
 // ---- Calls ----
@@ -111,7 +114,7 @@ fn compare_texts(count: u64, seed: u64, command: &[String]) -> bool {
     let all = inputs(count, &mut Dice::new(seed));
     let mut counts = Counts::default();
     let mut differing = Vec::new();
-    let mut seconds = 0.0;
+    let (mut timed, mut seconds) = (0, 0.0);
     for (place, input) in all.iter().enumerate() {
         let answer = answer_to_input(input);
         counts.add(case_of_input(input).as_ref(), &answer);
@@ -120,14 +123,16 @@ fn compare_texts(count: u64, seed: u64, command: &[String]) -> bool {
         if ask::program(command, input, slowly) != printed(&answer) {
             differing.push(place);
         }
-        seconds += if slowly { 0.0 } else { started.elapsed().as_secs_f64() };
+        if !slowly {
+            timed += 1;
+            seconds += started.elapsed().as_secs_f64();
+        }
     }
-    let runs = all.len() - (all.len() + SLOW_EVERY - 1) / SLOW_EVERY;
     println!(
         "texts: {} inputs (seed {seed}), {} printed otherwise; {:.1} ms for one run",
         all.len(),
         differing.len(),
-        seconds * 1000.0 / runs.max(1) as f64
+        seconds * 1_000.0 / f64::from(timed)
     );
     counts.print();
     if let Some(&first) = differing.first() {

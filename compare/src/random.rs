@@ -1,15 +1,20 @@
 //! Random meshes and requests from a fixed seed, small enough to list, with what goes wrong in this trade; and damage
 //! done to them, often in several places at once.
 
-use crate::listing::{
-    ranking_within, Plan, Route, ALLOWANCE_MAX, METRES_MAX, REACH_MAX, REPLY_BYTES, TABLE_BYTES_MAX,
-};
+use crate::listing::{ranking_within, Plan, Route, ALLOWANCE_MAX, METRES_MAX, REACH_MAX, REPLY_BYTES, TABLE_BYTES_MAX};
 use crate::mesh::{arcs_of, table_bytes, Arc, Case, Request, ARC_BYTES};
 
 const ARCS_MAX: usize = TABLE_BYTES_MAX / ARC_BYTES;
-/// More routes than this, or more arcs looked at in listing them, and a mesh loses an arc.
-const ROUTES_LISTED: usize = 300;
-const PATIENCE: usize = 5_000;
+/// A mesh with more routes than this, or more arcs to look at in listing them, loses an arc.
+const FEW: Listable = Listable { routes: 300, patience: 5_000 };
+/// The same for some meshes, since every pair of so many takes its time.
+const MANY: Listable = Listable { routes: 1_000, patience: 20_000 };
+
+#[derive(Clone, Copy)]
+struct Listable {
+    routes: usize,
+    patience: usize,
+}
 
 /// The generator splitmix64: the same numbers on every machine.
 pub struct Dice(u64);
@@ -31,7 +36,7 @@ impl Dice {
         (self.roll() % bound as u64) as usize
     }
 
-    fn from_to(&mut self, low: usize, high: usize) -> usize {
+    fn between(&mut self, low: usize, high: usize) -> usize {
         low + self.below(high - low + 1)
     }
 
@@ -56,30 +61,30 @@ type Ends = Vec<(u8, u8)>;
 
 fn two_nodes(dice: &mut Dice, nodes: usize) -> (u8, u8) {
     let tail = dice.below(nodes);
-    let head = (tail + dice.from_to(1, nodes - 1)) % nodes;
+    let head = (tail + dice.between(1, nodes - 1)) % nodes;
     (tail as u8, head as u8)
 }
 
 /// Mostly as many as can still be listed.
 fn few_nodes(dice: &mut Dice) -> usize {
     if dice.percent(30) {
-        dice.from_to(2, 5)
+        dice.between(2, 5)
     } else {
-        dice.from_to(6, 8)
+        dice.between(6, 8)
     }
 }
 
 fn scattered(dice: &mut Dice) -> Ends {
     let nodes = few_nodes(dice);
     let fewest = if dice.percent(10) { 0 } else { 2 * nodes };
-    let arcs = dice.from_to(fewest, 4 * nodes);
+    let arcs = dice.between(fewest, 4 * nodes);
     (0..arcs).map(|_| two_nodes(dice, nodes)).collect()
 }
 
 /// Both directions of each span, one after the other.
 fn spans(dice: &mut Dice) -> Ends {
     let nodes = few_nodes(dice);
-    let spans = dice.from_to(nodes - 1, 2 * nodes + 2);
+    let spans = dice.between(nodes - 1, 2 * nodes + 2);
     (0..spans)
         .flat_map(|_| {
             let (tail, head) = two_nodes(dice, nodes);
@@ -90,7 +95,7 @@ fn spans(dice: &mut Dice) -> Ends {
 
 /// An arc from each node to each other.
 fn full(dice: &mut Dice) -> Ends {
-    let nodes = dice.from_to(3, 7) as u8;
+    let nodes = dice.between(3, 8) as u8;
     (0..nodes).flat_map(|tail| (0..nodes).filter(move |&head| head != tail).map(move |head| (tail, head))).collect()
 }
 
@@ -104,11 +109,11 @@ fn chain(between: usize) -> Vec<u8> {
 
 /// Bundles of parallel arcs in a row.
 fn parallel(dice: &mut Dice) -> Ends {
-    let hops = dice.from_to(1, 4);
+    let hops = dice.between(1, 4);
     let most = [ARCS_MAX, 17, 6, 4][hops - 1];
     let mut ends = Vec::new();
     for hop in chain(hops - 1).windows(2) {
-        for _ in 0..dice.from_to(1, most) {
+        for _ in 0..dice.between(1, most) {
             ends.push((hop[0], hop[1]));
         }
     }
@@ -117,10 +122,10 @@ fn parallel(dice: &mut Dice) -> Ends {
 
 /// A long chain, up to all 32 nodes, with a few hops doubled, a few passed over and a few walked back.
 fn long(dice: &mut Dice) -> Ends {
-    let between = if dice.percent(40) { 30 } else { dice.from_to(6, 30) };
+    let between = if dice.percent(40) { 30 } else { dice.between(6, 30) };
     let nodes = chain(between);
     let mut ends: Ends = nodes.windows(2).map(|hop| (hop[0], hop[1])).collect();
-    for _ in 0..dice.from_to(0, 6) {
+    for _ in 0..dice.between(0, 6) {
         let at = dice.below(nodes.len() - 2);
         ends.push(dice.pick(&[
             (nodes[at], nodes[at + 1]),
@@ -135,9 +140,9 @@ fn long(dice: &mut Dice) -> Ends {
 /// Few arcs that matter among many that mostly do not: tables as full as can be, with high arc numbers.
 fn crowded(dice: &mut Dice) -> Ends {
     let mut ends = if dice.percent(50) { scattered(dice) } else { spans(dice) };
-    let total = if dice.percent(50) { ARCS_MAX } else { dice.from_to(ends.len(), ARCS_MAX) };
+    let total = if dice.percent(50) { ARCS_MAX } else { dice.between(ends.len(), ARCS_MAX) };
     while ends.len() < total {
-        let other = dice.from_to(8, 31) as u8;
+        let other = dice.between(8, 31) as u8;
         ends.push(dice.pick(&[(1, other), (other, 0), (other, 1), (other, other ^ 1), (0, other)]));
     }
     ends
@@ -156,8 +161,8 @@ fn lengths(dice: &mut Dice, arcs: &mut [Arc]) {
             4 => dice.pick(&[999, 1_000, 1_001, 1_999]),
             5 => dice.pick(&[METRES_MAX, METRES_MAX, METRES_MAX - 1]),
             6 => dice.pick(&[1_000, 2_000, 3_000]),
-            7..=9 => dice.from_to(0, 20) as u32,
-            _ => dice.from_to(0, METRES_MAX as usize) as u32,
+            7..=9 => dice.between(0, 20) as u32,
+            _ => dice.between(0, METRES_MAX as usize) as u32,
         };
     }
 }
@@ -208,9 +213,10 @@ fn rename_nodes(dice: &mut Dice, arcs: &mut [Arc]) -> (u32, u32) {
 
 /// Takes arcs away until all routes can be listed, and returns them in their ranking.
 fn make_listable(dice: &mut Dice, arcs: &mut Vec<Arc>, request: &Request) -> Vec<Route> {
+    let most = if dice.percent(3) { MANY } else { FEW };
     loop {
-        match ranking_within(PATIENCE, arcs, request) {
-            Some(ranking) if ranking.len() <= ROUTES_LISTED => return ranking,
+        match ranking_within(most.patience, arcs, request) {
+            Some(ranking) if ranking.len() <= most.routes => return ranking,
             _ => arcs.remove(dice.below(arcs.len())),
         };
     }
@@ -249,7 +255,7 @@ fn reach(dice: &mut Dice, ranking: &[Route]) -> u32 {
     }
     let some = ranking[dice.below(ranking.len())].metres;
     let (shortest, longest) = (ranking[0].metres, ranking[ranking.len() - 1].metres);
-    let free = dice.from_to(0, longest as usize + 1) as u32;
+    let free = dice.between(0, longest as usize + 1) as u32;
     let chosen = match dice.below(20) {
         0..=4 => some,
         5..=7 => some.saturating_sub(1),
@@ -274,7 +280,7 @@ fn allowance(dice: &mut Dice, n: usize, settled_at: usize) -> u32 {
         10 => n + 1,
         11 => 1,
         12 => 2,
-        13..=14 => dice.from_to(1, n),
+        13..=14 => dice.between(1, n),
         _ => ALLOWANCE_MAX as usize,
     };
     at.max(1) as u32
@@ -339,7 +345,7 @@ fn lengthen(dice: &mut Dice, table: &mut Vec<u8>, bytes: usize) {
 
 fn damage_table(dice: &mut Dice, case: &mut Case) {
     let bytes = case.table.len();
-    match dice.below(4) {
+    match dice.below(5) {
         0 => {
             let over = dice.pick(&[2_049, 2_064, 2_063, 4_096]);
             lengthen(dice, &mut case.table, over);
@@ -347,10 +353,11 @@ fn damage_table(dice: &mut Dice, case: &mut Case) {
         // A length whose low 16 bits are those of the sound table.
         1 => lengthen(dice, &mut case.table, bytes % 65_536 + 65_536),
         2 => {
-            let torn = bytes + dice.from_to(1, 15);
+            let torn = bytes + dice.between(1, 15);
             lengthen(dice, &mut case.table, torn);
         }
-        _ => case.table.truncate(bytes.saturating_sub(dice.from_to(1, 15))),
+        3 => case.table.truncate(bytes.saturating_sub(dice.between(1, 15))),
+        _ => case.table.clear(),
     }
 }
 
@@ -368,7 +375,7 @@ fn damage_request(dice: &mut Dice, request: &mut Request) {
 }
 
 fn damage(dice: &mut Dice, case: &mut Case) {
-    for _ in 0..dice.from_to(1, 4) {
+    for _ in 0..dice.between(1, 4) {
         match dice.below(8) {
             0 => case.reply_len = dice.pick(&[0, 0, 1, 31, 64, 95, 95]),
             1..=2 => damage_table(dice, case),
