@@ -1,5 +1,5 @@
-//! The separate program: holds the planner to document 01 by listing every route and every pair. It was written from
-//! that document alone, and shares no code and no definition with the planner.
+//! The separate program: holds the planner to document 01 by listing every route and every pair. Its rules are that
+//! document's, read anew; it shares no code and no definition with the planner.
 //!
 //!   compare listing                        holds the listing itself to the cases that 01 works by hand
 //!   compare calls COUNT SEED COMMAND..     compares those cases and COUNT random calls, through the driver COMMAND
@@ -155,6 +155,9 @@ fn show_text(command: &[String], input: &[u8]) {
         println!("input: {small:02x?}");
     }
     let answer = answer_to_input(&small);
-    print!("{}expected text:\n{}", expected_on_paper(&answer), printed(&answer));
-    println!("given text:\n{}", given(&small));
+    let (expected, given) = (printed(&answer), given(&small));
+    println!("{}expected text:\n{expected}given text:\n{given}", expected_on_paper(&answer));
+    if given == expected {
+        println!("(it differs only when its input comes in pieces, or not every time)");
+    }
 }
