@@ -1,0 +1,16 @@
+// The planner on the benchmark's cases: the entry of target/staticlib/libentry.a as a host calls it, checks and reply included.
+#include "cases.h"
+
+extern "C" uint32_t feshangul_plan(const uint8_t *table, size_t table_len, uint8_t *reply, size_t reply_len, uint32_t source,
+                                   uint32_t terminal, uint32_t reach, uint32_t allowance);
+
+Answer plan(const Case &c) {
+    uint8_t reply[REPLY];
+    uint32_t returned = feshangul_plan(c.table.data(), c.table.size(), reply, REPLY, c.source, c.terminal, c.reach, c.allowance);
+    if (returned > 1) fprintf(stderr, "the planner refused a case with %u\n", returned), exit(1);
+    return {reply[1], number(reply + 12, 4) + number(reply + 16, 4), number(reply + 8, 4), returned};
+}
+
+int main(int, char **words) {
+    return time_all(words, [](const Case &c) { return c; }, plan);
+}
