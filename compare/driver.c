@@ -4,11 +4,11 @@
  * table's bytes. An answer: the number returned, 32 bits, then the whole reply buffer as the call left it. An answer
  * is flushed before the next case is read, so a reader who misses one knows which case ended the driver.
  *
- * Each case is called in two rounds: with table and reply each ending exactly at a page without access, and with each
- * beginning exactly after one. One byte read or written outside either then ends the driver with a message, and so
- * does a changed byte of the table or of the guard on the reply's open side. An empty table or reply is also given as
- * NULL. The reply is filled before each call, not alike in the two rounds; each byte of it must come out the same in
- * every round, or untouched in every round. The driver knows nothing else of the rules: its reader judges answers. */
+ * Each case is called in three rounds: with table and reply each ending exactly at a page without access, with each
+ * beginning exactly after one, and with each at an odd address, or NULL where it is empty. One byte read or written
+ * outside either then ends the driver with a message, and so does a changed byte of the table or of the guard on the
+ * reply's open side. The reply is filled before each call, not alike in all rounds; each byte of it must come out the
+ * same in every round, or untouched in every round. The driver knows nothing else of the rules: its reader judges. */
 #define _DEFAULT_SOURCE
 #include "feshangul.h"
 
@@ -32,12 +32,12 @@ struct request {
     uint32_t table_len, reply_len, source, terminal, reach, allowance;
 };
 
-enum round { ENDING, BEGINNING, NOWHERE, ROUNDS };
+enum round { ENDING, BEGINNING, ODD, ROUNDS };
 
 static const char *const round_words[ROUNDS] = {
     "buffers ending at a page without access",
     "buffers beginning after a page without access",
-    "NULL for what is empty",
+    "buffers at odd addresses, NULL for what is empty",
 };
 
 static uint8_t *table_room, *reply_room;
@@ -83,15 +83,21 @@ static uint8_t *fenced_room(void)
 
 static uint8_t *placed(uint8_t *room, uint32_t length, enum round round)
 {
-    if (round == NOWHERE && length == 0)
-        return NULL;
-    return round == ENDING ? room + ROOM - length : room;
+    switch (round) {
+    case ENDING: return room + ROOM - length;
+    case BEGINNING: return room;
+    default: return length == 0 ? NULL : room + 1;
+    }
 }
 
-/* The GUARD bytes beside the reply where access goes on. */
+/* The GUARD bytes beside the reply where access goes on; behind it at an odd address. */
 static uint8_t *guard_beside(uint32_t reply_len, enum round round)
 {
-    return round == ENDING ? reply_room + ROOM - reply_len - GUARD : reply_room + reply_len;
+    switch (round) {
+    case ENDING: return reply_room + ROOM - reply_len - GUARD;
+    case BEGINNING: return reply_room + reply_len;
+    default: return reply_room + 1 + reply_len;
+    }
 }
 
 /* What stands at a place of the reply before the call: bytes that no arc number, count or spare byte of a reply has,
@@ -191,10 +197,8 @@ int main(void)
     for (; read_case(&r, table); cases++) {
         uint32_t number = call_planner(&r, table, ENDING, reply);
         call_again(&r, table, BEGINNING, number, reply);
-        if (r.table_len == 0 || r.reply_len == 0) {
-            call_again(&r, table, NOWHERE, number, reply);
-            null_calls++;
-        }
+        call_again(&r, table, ODD, number, reply);
+        null_calls += r.table_len == 0 || r.reply_len == 0;
         write_answer(number, reply, r.reply_len);
     }
     fprintf(stderr, "driver: %lu cases, %lu calls (%lu with NULL), no byte touched outside table and reply\n", cases,
