@@ -18,7 +18,7 @@ pub fn kilometres(metres: u32) -> u32
     ((metres as u64 + 999) / 1000) as u32
 }
 
-fn wide(x: u8) -> u32
+pub fn wide(x: u8) -> u32
     ensures { λ r. ⌜ r ≡ x ⌝ }
 {
     x as u32
@@ -31,7 +31,7 @@ fn number4(a: u8, b: u8, c: u8, d: u8) -> u32
 }
 
 // The number that 4 bytes say.
-fn number_at(bytes: &[u8], at: usize) -> u32
+pub fn number_at(bytes: &[u8], at: usize) -> u32
     requires { ⌜ at + 4 ≤ length (now bytes) ⌝ }
     ensures { λ r. ⌜ r ≡ numberAt (now (bytes .entry)) at 4 ⌝ }
 {
