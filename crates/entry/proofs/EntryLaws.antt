@@ -1,24 +1,28 @@
 -- From the parts of a plan to the answer of the definitions. Assumes nothing.
 use mathlib.Core.Path.{_≡_, refl, sym, ap, ap₂, _∙_, subst}
 use mathlib.Core.Logic.{_⊎_, inl, inr}
-use mathlib.Core.Bool.{true, false, true≢false, false≢true}
+use mathlib.Core.Bool.{true, false, _||_, true≢false, false≢true}
 use mathlib.Core.List.{List, [], _∷_, _++_, List·Memᴰ, List·Memᴰ·head, List·Memᴰ·not-nil}
 use Prim.Native.Nat.{ℕ, zero, suc, _≤_, _<_}
 use native.Mathlib.Omega.{arith}
 use lib.Bits.{bitAnd, and-self, and-zero-r}
 use lib.Count.{onesIn}
+use lib.Dec.{ltb}
 use lib.ListN.{length, drop}
+use borrow.Author.Tests.{le-ltb}
 use Rattle.problem.specs.declared.Arc.{Arc}
-use Rattle.problem.specs.Table.{mostAllowance, replySize, arcsOf, allSound}
+use Rattle.problem.specs.Table.{mostReach, mostAllowance, replySize, arcsOf, allSound}
 use Rattle.problem.specs.Routes.{Route, metresOf, risksOf, ranking}
 use Rattle.problem.specs.Pairs.{Pair, best, commonRisks, floor, ranked, verdict}
 use Rattle.problem.specs.Reply.{Request, Answer, refuse, after, replyOf, refusal, planned, answerUnless, answer}
 use Rattle.problem.proofs.RankingLaws.{ranking-out}
+use Rattle.problem.proofs.PairLaws.{best-mem, best-main}
 use Rattle.problem.proofs.WayLaws.{FreeWay, way-bettered}
-use Rattle.problem.proofs.ReplyLaws.{Passed, routesOf, chosen, refusal-passed, sound-heads}
-use Rattle.problem.proofs.CallLaws.{WithPair, some-route, reply-size}
+use Rattle.problem.proofs.ReplyLaws.{Passed, routesOf, chosen, refusal-passed, route-range, sound-heads}
+use Rattle.problem.proofs.CallLaws.{WithPair, some-route, reply-size, pair-step}
 use Rattle.side.specs.declared.Side.{Side}
 use Rattle.side.specs.Side.{SideTable, reachedAt, metresAt}
+use Rattle.track.specs.Track.{routeIn}
 use Rattle.reply.specs.Reply.{pairIn}
 use Rattle.layout.specs.Layout.{LaidOut}
 use Rattle.plan.specs.Plan.{routesIn, Planning}
@@ -133,3 +137,16 @@ given table q size passed {m} f buffer = (
 
     short : length (answer table q size .reply) ≡ replySize
     short = reply-size w
+
+-- number 11 is never given
+pub not-too-long : (table : List ℕ) (q : Request) (size : ℕ) → Passed table q size → {m : Made} → Found (routesOf table q) (q .allowance) m
+    → (ltb mostReach (m .choice .main .metres) || ltb mostReach (m .choice .standby .metres)) ≡ false
+unfolding routeIn
+not-too-long table q size passed {m} f =
+    let w : WithPair table q size = some-route table q size passed (f .some-route) in
+    let main = route-range passed (best-main (routesOf table q) (pair-step w)) in
+    let standby = route-range passed (best-mem (routesOf table q) (pair-step w) .1) in
+    rw (
+      le-ltb mostReach (m .choice .main .metres) (omega (arith, main, ap (λ (p : Pair). p .main .metres) (f .pair-is))),
+      le-ltb mostReach (m .choice .standby .metres) (omega (arith, standby, ap (λ (p : Pair). p .standby .metres) (f .pair-is))),
+    )

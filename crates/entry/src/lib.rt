@@ -2,7 +2,8 @@
 use choose::Choice;
 use side::Side;
 ghost use mathlib.Core.Path.{_≡_};
-ghost use mathlib.Core.Bool.{true, false};
+ghost use mathlib.Core.Bool.{true, false, _||_};
+ghost use lib.Dec.{ltb};
 ghost use Prim.Native.Nat.{_<_, _≤_};
 ghost use lib.ListN.{length};
 ghost use Rattle.problem.specs.Table.{lastNode, mostReach, mostAllowance, mostTableBytes, arcsOf, allSound};
@@ -12,6 +13,10 @@ ghost use Rattle.side.specs.Side.{SideTable};
 ghost use Rattle.entry.specs.Entry.{answerTo, Planned};
 
 const NO_ROUTE: u32 = 10;
+
+const ROUTE_TOO_LONG: u32 = 11;
+
+const MOST_REACH: u32 = 62000000;
 
 // What planning makes of a call: whether there is a route, the floor, and the reply's other fields.
 pub struct Made {
@@ -69,7 +74,19 @@ fn plan_checked(table: &[u8], source: u8, terminal: u8, reach: u32, allowance: u
     make(table, source, terminal, reach, allowance, side)
 }
 
-// Number 11 is looked for by nobody: no route within the reach is longer than the reach may be.
+// Number 11. It is never given, since no route is longer than the reach may be; it is looked for because 01 lists it.
+fn is_too_long(c: Choice) -> bool
+    ensures { λ r. ⌜ r ≡ (ltb mostReach (c .main .metres) || ltb mostReach (c .standby .metres)) ⌝ }
+{
+    let main = c.main;
+    let standby = c.standby;
+    if MOST_REACH < main.metres {
+        return true;
+    }
+    MOST_REACH < standby.metres
+}
+
+// Plans, for any table, request and buffer: the number is 0 or 1 and the reply is written, or it is a refusal's and nothing is.
 #[no_mangle]
 pub extern "C" fn feshangul_plan(
     table: &[u8],
@@ -91,6 +108,9 @@ pub extern "C" fn feshangul_plan(
         return NO_ROUTE;
     }
     let c = made.choice;
+    if is_too_long(c) {
+        return ROUTE_TOO_LONG;
+    }
     reply::write(reply, c.verdict, made.floor, c.ranked, c.main, c.standby);
     c.verdict as u32
 }

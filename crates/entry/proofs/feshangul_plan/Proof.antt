@@ -1,6 +1,7 @@
 -- `entry::feshangul_plan` meets its contract: each end of the code is the same end of the definitions' answer. Assumes nothing.
 use mathlib.Core.Path.{_≡_, sym, _∙_}
 use Prim.Native.Nat.{ℕ}
+use mathlib.Core.Bool.{true≢false}
 use mathlib.Core.List.{List}
 use lib.ListN.{length}
 use native.Mathlib.Omega.{arith}
@@ -8,7 +9,7 @@ use borrow.Author.Needs.{needs}
 use borrow.Author.Tests.{not-true, not-false}
 use Rattle.problem.specs.Reply.{Request, answer}
 use Rattle.problem.proofs.ReplyLaws.{Passed, refusal-passed}
-use Rattle.entry.proofs.EntryLaws.{refused, none-answered, untouched, given}
+use Rattle.entry.proofs.EntryLaws.{refused, none-answered, untouched, given, not-too-long}
 use Rattle.entry.proofs.feshangul_plan.Statement.{statement}
 use Rattle.entry.proofs.feshangul_plan.Tie as tie
 
@@ -51,9 +52,24 @@ returns-2 c =
     untouched (answer (a .table .now) q (length (a .reply .now))) 10 (a .reply .now)
     (none-answered (a .table .now) q (length (a .reply .now)) (sym (f .refusal .ensures) ∙ g .if1 .left) (m .plan-checked .ensures .none (not-true _ (c .if2 .taken))))
 
+is-too-long-requires : tie.Need-is-too-long-requires
+is-too-long-requires c κs = search needs
+
+-- never taken
+returns-3 : tie.Need-returns-3
+returns-3 c =
+    let l = c .before in
+    let t = l .before .before in
+    let m = t .before .before in
+    let g = m .before in
+    let f = g .before in
+    let a = f .before .before .before .args in
+    let q = request (a .source) (a .terminal) (a .reach) (a .allowance) in
+    absurd (true≢false (sym (c .if3 .taken) ∙ l .is-too-long .ensures ∙ not-too-long (a .table .now) q (length (a .reply .now)) (refusal-passed _ _ _ (sym (f .refusal .ensures) ∙ g .if1 .left)) (m .plan-checked .ensures .some (not-false _ (t .if2 .left)))))
+
 write-requires : tie.Need-write-requires
 write-requires c κs =
-    let t = c .before .before in
+    let t = c .before .before .before .before in
     let m = t .before .before in
     let g = m .before in
     let f = g .before in
@@ -67,10 +83,10 @@ cast-result c = search needs
 same-length : tie.Need-same-length
 same-length c = search needs
 
-returns-3 : tie.Need-returns-3
-returns-3 c =
+returns-4 : tie.Need-returns-4
+returns-4 c =
     let w = c .before .before .before in
-    let t = w .before .before .before in
+    let t = w .before .before .before .before .before in
     let m = t .before .before in
     let g = m .before in
     let f = g .before in
@@ -89,7 +105,9 @@ feshangul-plan-spec =
     cast-plan-checked-2
     plan-checked-requires
     returns-2
+    is-too-long-requires
+    returns-3
     write-requires
     cast-result
     same-length
-    returns-3)
+    returns-4)
