@@ -4,7 +4,7 @@ use problem::Fault;
 ghost use mathlib.Core.Path.{_≡_};
 ghost use Prim.Native.Nat.{_+_, _*_, _≤_, _<_};
 ghost use lib.ListN.{length};
-ghost use Rattle.problem.specs.Table.{arcOf, arcsOf, faultOf, isSound, allSound};
+ghost use Rattle.problem.specs.Table.{arcOf, arcsOf, faultOf, faultNumber, arcsNumber};
 ghost use Rattle.problem.specs.Routes.{arcAt, opens};
 
 pub const LAST_NODE: u8 = 31;
@@ -83,32 +83,33 @@ pub fn fault(a: Arc) -> Fault
     Fault::Sound
 }
 
-fn is_sound(f: Fault) -> bool
-    ensures { λ r. ⌜ r ≡ isSound f ⌝ }
+fn number(f: Fault) -> u32
+    ensures { λ r. ⌜ r ≡ faultNumber f ⌝ }
 {
     match f {
-        Fault::Sound => true,
-        Fault::Node => false,
-        Fault::EqualEnds => false,
-        Fault::Length => false,
-        Fault::Spare => false,
+        Fault::Sound => 0,
+        Fault::Node => 9,
+        Fault::EqualEnds => 9,
+        Fault::Length => 9,
+        Fault::Spare => 9,
     }
 }
 
-// Whether every arc of the table is sound.
-pub fn all_sound(table: &[u8]) -> bool
-    ensures { λ r. ⌜ r ≡ allSound (arcsOf (now (table .entry))) ⌝ }
+// The number for the first arc of the table that has a fault, or 0.
+pub fn refusal(table: &[u8]) -> u32
+    ensures { λ r. ⌜ r ≡ arcsNumber (arcsOf (now (table .entry))) ⌝ }
 {
     let n = table.len() / 16;
     let mut k: usize = 0;
     while k < n {
         let f = fault(arc_at(table, k));
-        if !is_sound(f) {
-            return false;
+        let m = number(f);
+        if m != 0 {
+            return m;
         }
         k = k + 1;
     }
-    true
+    0
 }
 
 // Whether an arc leaves `at` for a node that is not met yet.

@@ -62,8 +62,5 @@ pub fn refusal(
     if of_request != 0 {
         return of_request;
     }
-    if !arcs::all_sound(table) {
-        return 9;
-    }
-    0
+    arcs::refusal(table)
 }

@@ -10,11 +10,11 @@ use lib.ListN.{length, getD, drop, replicate, length-append, length-replicate}
 use borrow.Author.Tests.{ltb-false, le-ltb, eqb-true, eqb-false, eq-eqb, ne-eqb, not-false, leb-true, leb-false, le-leb, lt-leb}
 use Rattle.laws.specs.Choosing.{if_then_else_}
 use Rattle.problem.specs.declared.Arc.{Arc}
-use Rattle.problem.specs.Table.{lastNode, mostArcs, mostReach, mostAllowance, mostTableBytes, replySize, numberAt, bytesOf, arcsOf, allSound}
+use Rattle.problem.specs.Table.{lastNode, mostArcs, mostReach, mostAllowance, mostTableBytes, replySize, numberAt, bytesOf, arcsOf, arcsNumber, allSound}
 use Rattle.problem.specs.Routes.{Route, routeOf, ranking}
 use Rattle.problem.specs.Pairs.{Pair, sharedCount, best, floor, leastSettled, ranked, verdict}
 use Rattle.problem.specs.Reply.{Request, Answer, refuse, placesOf, replyOf, refusal, planned, answerUnless, answer}
-use Rattle.problem.proofs.TableLaws.{SoundArc, sound-at}
+use Rattle.problem.proofs.TableLaws.{SoundArc, sound-at, sound-number, number-sound, number-nine}
 use Rattle.problem.proofs.RankingLaws.{LowHeads, Listed, ranking-out}
 use Rattle.problem.proofs.PairLaws.{Step, best-mem, best-main}
 use Rattle.problem.proofs.SettleLaws.{least-settled-step}
@@ -52,7 +52,6 @@ refusal-passed table q size e =
     let f = not-first (eqb (q .source) (q .terminal)) 5 _ (d .1) in
     let g = not-first (ltb mostReach (q .reach)) 6 _ (f .1) in
     let h = not-first (eqb (q .allowance) 0 || ltb mostAllowance (q .allowance)) 7 _ (g .1) in
-    let i = not-first (not (allSound (arcsOf table))) 8 _ (h .1) in
     let nodes = neither (ltb lastNode (q .source)) (ltb lastNode (q .terminal)) (d .0) in
     let allowed = neither (eqb (q .allowance) 0) (ltb mostAllowance (q .allowance)) (h .0) in
     record {
@@ -65,7 +64,7 @@ refusal-passed table q size e =
       reach-range = ltb-false mostReach (q .reach) (g .0);
       some-allowance = omega (arith, eqb-false (q .allowance) 0 (allowed .0));
       allowance-range = ltb-false mostAllowance (q .allowance) (allowed .1);
-      sound = not-false _ (i .0);
+      sound = number-sound (arcsOf table) (h .1);
     }
 
 pub passed-refusal : {table : List ℕ} {q : Request} {size : ℕ} → Passed table q size → refusal table q size ≡ 0
@@ -81,27 +80,26 @@ passed-refusal {table} {q} {size} p =
       le-ltb mostReach (q .reach) (p .reach-range),
       ne-eqb (q .allowance) 0 (λ e. omega (arith, p .some-allowance)),
       le-ltb mostAllowance (q .allowance) (p .allowance-range),
-      p .sound,
+      sound-number (arcsOf table) (p .sound),
     )
 
 -- a refusal by these checks is one of 2 to 9
-refusal-range : (a b c d e f g h : Bool) (n : ℕ)
-    → (if a then 2 else (if b then 3 else (if c then 4 else (if d then 5 else (if e then 6 else (if f then 7 else (if g then 8 else (if h then 9 else 0)))))))) ≡ suc n → (2 ≤ suc n) × (suc n ≤ 9)
-refusal-range true b c d e f g h n p = omega arith
-refusal-range false true c d e f g h n p = omega arith
-refusal-range false false true d e f g h n p = omega arith
-refusal-range false false false true e f g h n p = omega arith
-refusal-range false false false false true f g h n p = omega arith
-refusal-range false false false false false true g h n p = omega arith
-refusal-range false false false false false false true h n p = omega arith
-refusal-range false false false false false false false true n p = omega arith
-refusal-range false false false false false false false false n p = absurd (omega arith)
+refusal-range : (a b c d e f g : Bool) (m n : ℕ) → ((m ≡ 0 → ⊥) → m ≡ 9)
+    → (if a then 2 else (if b then 3 else (if c then 4 else (if d then 5 else (if e then 6 else (if f then 7 else (if g then 8 else m))))))) ≡ suc n → (2 ≤ suc n) × (suc n ≤ 9)
+refusal-range true b c d e f g m n nine p = omega arith
+refusal-range false true c d e f g m n nine p = omega arith
+refusal-range false false true d e f g m n nine p = omega arith
+refusal-range false false false true e f g m n nine p = omega arith
+refusal-range false false false false true f g m n nine p = omega arith
+refusal-range false false false false false true g m n nine p = omega arith
+refusal-range false false false false false false true m n nine p = omega arith
+refusal-range false false false false false false false m n nine p = omega (arith, nine (λ z. omega arith))
 
 refusal-number : (table : List ℕ) (q : Request) (size n : ℕ) → refusal table q size ≡ suc n → (2 ≤ suc n) × (suc n ≤ 9)
 unfolding refusal
 refusal-number table q size n e =
     refusal-range (ltb mostTableBytes (length table)) (not (eqb (length table % 16) 0)) (ltb size replySize) (ltb lastNode (q .source) || ltb lastNode (q .terminal))
-    (eqb (q .source) (q .terminal)) (ltb mostReach (q .reach)) (eqb (q .allowance) 0 || ltb mostAllowance (q .allowance)) (not (allSound (arcsOf table))) n e
+    (eqb (q .source) (q .terminal)) (ltb mostReach (q .reach)) (eqb (q .allowance) 0 || ltb mostAllowance (q .allowance)) (arcsNumber (arcsOf table)) n (number-nine (arcsOf table)) e
 
 -- ---- how a call ends
 

@@ -1,6 +1,6 @@
--- The table: how many arcs it has, where each stands, what a sound table says of each arc, and soundness arc by arc. Assumes nothing.
-use mathlib.Core.Path.{_≡_, refl, ap, _∙_}
-use mathlib.Core.Bool.{Bool, true, false, _&&_, _||_, not, false≢true}
+-- The table: how many arcs it has, where each stands, what a sound table says of each arc, and the number for a fault, arc by arc. Assumes nothing.
+use mathlib.Core.Path.{_≡_, refl, sym, ap, _∙_}
+use mathlib.Core.Bool.{Bool, true, false, _||_, not}
 use mathlib.Core.List.{List, [], _∷_}
 use Prim.Native.Nat.{ℕ, zero, suc, _+_, _*_, _/_, _≤_, _<_}
 use native.Mathlib.Nat.{not-suc-le-zero, le-of-suc-le-suc}
@@ -9,11 +9,12 @@ use native.Mathlib.Omega.{arith}
 use lib.Dec.{eqb, ltb}
 use lib.ListN.{length, take, drop}
 use lib.Seq.{drop-cons, drop-drop, drop-length}
-use borrow.Author.Tests.{ltb-false, eqb-true, eqb-false}
+use borrow.Author.Tests.{ltb-false, eqb-true, eqb-false, eq-eqb, ne-eqb}
 use Rattle.laws.specs.Choosing.{if_then_else_}
 use Rattle.problem.specs.declared.Arc.{Arc}
+use Rattle.problem.specs.declared.Fault.{Fault}
 use Rattle.problem.specs.declared.Fault.the-variants.{Sound, Node, EqualEnds, Length, Spare}
-use Rattle.problem.specs.Table.{lastNode, mostArcMetres, arcOf, firstArcs, arcsOf, faultOf, isSound, allSound}
+use Rattle.problem.specs.Table.{lastNode, mostArcMetres, arcOf, firstArcs, arcsOf, faultOf, faultNumber, arcsNumber, allSound}
 use Rattle.problem.specs.Routes.{arcAt}
 
 -- one arc for every 16 bytes
@@ -52,16 +53,16 @@ pub record SoundArc (a : Arc) : Type 0 where
 
 -- the five tests of `faultOf`, all passed
 tests-passed : (t h e m s : Bool)
-    → isSound (if t || h then Node else (if e then EqualEnds else (if m then Length else (if not s then Spare else Sound)))) ≡ true
+    → faultNumber (if t || h then Node else (if e then EqualEnds else (if m then Length else (if not s then Spare else Sound)))) ≡ 0
     → (t ≡ false) × (h ≡ false) × (e ≡ false) × (m ≡ false) × (s ≡ true)
-tests-passed true h e m s p = absurd (false≢true p)
-tests-passed false true e m s p = absurd (false≢true p)
-tests-passed false false true m s p = absurd (false≢true p)
-tests-passed false false false true s p = absurd (false≢true p)
-tests-passed false false false false false p = absurd (false≢true p)
+tests-passed true h e m s p = absurd (omega arith)
+tests-passed false true e m s p = absurd (omega arith)
+tests-passed false false true m s p = absurd (omega arith)
+tests-passed false false false true s p = absurd (omega arith)
+tests-passed false false false false false p = absurd (omega arith)
 tests-passed false false false false true p = (refl, refl, refl, refl, refl)
 
-pub sound-arc : (a : Arc) → isSound (faultOf a) ≡ true → SoundArc a
+pub sound-arc : (a : Arc) → faultNumber (faultOf a) ≡ 0 → SoundArc a
 unfolding faultOf
 sound-arc a h =
     let p = tests-passed (ltb lastNode (a .tail)) (ltb lastNode (a .head)) (eqb (a .tail) (a .head)) (ltb mostArcMetres (a .metres)) (eqb (a .spare) 0) h in
@@ -73,16 +74,44 @@ sound-arc a h =
       spare-zero = eqb-true _ _ (p .4);
     }
 
-and-both : (p q : Bool) → (p && q) ≡ true → (p ≡ true) × (q ≡ true)
-and-both true true h = (refl, refl)
-and-both true false h = absurd (false≢true h)
-and-both false q h = absurd (false≢true h)
+-- the first of two numbers that is not 0 is 0 only where both are
+both-zero : (m n : ℕ) → (if eqb m 0 then n else m) ≡ 0 → (m ≡ 0) × (n ≡ 0)
+both-zero zero n e = (refl, e)
+both-zero (suc m) n e = absurd (omega (arith, rw (ne-eqb (suc m) 0 (λ z. omega arith)) at e))
+
+number-at : (arcs : List Arc) → arcsNumber arcs ≡ 0 → (k : ℕ) → k < length arcs → SoundArc (arcAt arcs k)
+unfolding arcsNumber
+number-at [] h k l = absurd (not-suc-le-zero l)
+number-at (a ∷ arcs) h zero l = sound-arc a (both-zero (faultNumber (faultOf a)) (arcsNumber arcs) h .0)
+number-at (a ∷ arcs) h (suc k) l = number-at arcs (both-zero (faultNumber (faultOf a)) (arcsNumber arcs) h .1) k (le-of-suc-le-suc l)
+
+pub sound-number : (arcs : List Arc) → allSound arcs ≡ true → arcsNumber arcs ≡ 0
+unfolding allSound
+sound-number arcs h = eqb-true (arcsNumber arcs) 0 h
+
+pub number-sound : (arcs : List Arc) → arcsNumber arcs ≡ 0 → allSound arcs ≡ true
+unfolding allSound
+number-sound arcs h = eq-eqb (arcsNumber arcs) 0 h
 
 pub sound-at : (arcs : List Arc) → allSound arcs ≡ true → (k : ℕ) → k < length arcs → SoundArc (arcAt arcs k)
-unfolding allSound
-sound-at [] h k l = absurd (not-suc-le-zero l)
-sound-at (a ∷ arcs) h zero l = sound-arc a (and-both (isSound (faultOf a)) (allSound arcs) h .0)
-sound-at (a ∷ arcs) h (suc k) l = sound-at arcs (and-both (isSound (faultOf a)) (allSound arcs) h .1) k (le-of-suc-le-suc l)
+sound-at arcs h k l = number-at arcs (sound-number arcs h) k l
+
+fault-nine : (f : Fault) → (faultNumber f ≡ 0 → ⊥) → faultNumber f ≡ 9
+fault-nine Sound h = absurd (h refl)
+fault-nine Node h = refl
+fault-nine EqualEnds h = refl
+fault-nine Length h = refl
+fault-nine Spare h = refl
+
+first-nine : (m n : ℕ) → ((m ≡ 0 → ⊥) → m ≡ 9) → ((n ≡ 0 → ⊥) → n ≡ 9) → ((if eqb m 0 then n else m) ≡ 0 → ⊥) → (if eqb m 0 then n else m) ≡ 9
+first-nine zero n m-nine n-nine h = n-nine h
+first-nine (suc m) n m-nine n-nine h = rw (ne-eqb (suc m) 0 (λ z. omega arith)) (m-nine (λ z. omega arith))
+
+-- whatever the fault, its number is 9
+pub number-nine : (arcs : List Arc) → (arcsNumber arcs ≡ 0 → ⊥) → arcsNumber arcs ≡ 9
+unfolding arcsNumber
+number-nine [] h = absurd (h refl)
+number-nine (a ∷ arcs) h = first-nine (faultNumber (faultOf a)) (arcsNumber arcs) (fault-nine (faultOf a)) (number-nine arcs) h
 
 -- what stands for an arc past the table's end
 abbrev noArc : Arc
@@ -90,17 +119,18 @@ noArc = arcAt [] 0
 
 -- arc by arc: what is left to ask from arc k on
 module _ (arcs : List Arc) where
-  pub sound-end : allSound (drop (length arcs) arcs) ≡ true
-  unfolding allSound
-  sound-end = rw drop-length
+  pub number-end : arcsNumber (drop (length arcs) arcs) ≡ 0
+  unfolding arcsNumber
+  number-end = rw drop-length
 
-  sound-step : (k : ℕ) → k < length arcs → allSound (drop k arcs) ≡ (isSound (faultOf (arcAt arcs k)) && allSound (drop (k + 1) arcs))
-  unfolding allSound
-  sound-step k h = rw (add-one, drop-cons arcs k noArc h)
+  number-step : (k : ℕ) → k < length arcs
+      → arcsNumber (drop k arcs) ≡ (if eqb (faultNumber (faultOf (arcAt arcs k))) 0 then arcsNumber (drop (k + 1) arcs) else faultNumber (faultOf (arcAt arcs k)))
+  unfolding arcsNumber
+  number-step k h = rw (add-one, drop-cons arcs k noArc h)
 
   -- a faulty arc settles it; a sound one leaves the rest
-  pub sound-out : (k : ℕ) → k < length arcs → isSound (faultOf (arcAt arcs k)) ≡ false → allSound (drop k arcs) ≡ false
-  sound-out k h e = sound-step k h ∙ rw e
+  pub number-out : (k : ℕ) → k < length arcs → (faultNumber (faultOf (arcAt arcs k)) ≡ 0 → ⊥) → arcsNumber (drop k arcs) ≡ faultNumber (faultOf (arcAt arcs k))
+  number-out k h e = number-step k h ∙ rw (ne-eqb (faultNumber (faultOf (arcAt arcs k))) 0 e)
 
-  pub sound-on : (k : ℕ) → k < length arcs → isSound (faultOf (arcAt arcs k)) ≡ true → allSound (drop k arcs) ≡ allSound (drop (k + 1) arcs)
-  sound-on k h e = sound-step k h ∙ rw e
+  pub number-on : (k : ℕ) → k < length arcs → faultNumber (faultOf (arcAt arcs k)) ≡ 0 → arcsNumber (drop k arcs) ≡ arcsNumber (drop (k + 1) arcs)
+  number-on k h e = number-step k h ∙ rw e

@@ -5,7 +5,7 @@ use mathlib.Core.List.{List, [], _∷_, _++_}
 use lib.Dec.{eqb, ltb}
 use lib.ListN.{length, drop, replicate}
 use Rattle.laws.specs.Choosing.{if_then_else_}
-use Rattle.problem.specs.Table.{lastNode, mostReach, mostAllowance, mostTableBytes, replySize, bytesOf, arcsOf, allSound}
+use Rattle.problem.specs.Table.{lastNode, mostReach, mostAllowance, mostTableBytes, replySize, bytesOf, arcsOf, arcsNumber}
 use Rattle.problem.specs.Routes.{Route, ranking}
 use Rattle.problem.specs.Pairs.{Pair, sharedRisks, sharedCount, best, floor, ranked, verdict}
 
@@ -53,8 +53,7 @@ refusal table q size =
     else (if eqb (q .source) (q .terminal) then 6
     else (if ltb mostReach (q .reach) then 7
     else (if eqb (q .allowance) 0 || ltb mostAllowance (q .allowance) then 8
-    else (if not (allSound (arcsOf table)) then 9
-    else 0)))))))
+    else arcsNumber (arcsOf table)))))))
 
 -- the answer from the ranking, once those checks have passed
 unfoldable pub planned : List Route → ℕ → Answer

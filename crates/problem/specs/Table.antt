@@ -1,6 +1,6 @@
 -- 01, The span table: the limits, numbers in bytes, the arc of 16 bytes, its faults, the table. Assumes nothing.
 use Prim.Native.Nat.{ℕ, zero, suc, _+_, _*_, _/_, _%_}
-use mathlib.Core.Bool.{Bool, true, false, _&&_, _||_, not}
+use mathlib.Core.Bool.{Bool, _||_, not}
 use mathlib.Core.List.{List, [], _∷_}
 use lib.Dec.{eqb, ltb}
 use lib.ListN.{length, getD, take, drop}
@@ -68,14 +68,18 @@ faultOf a =
     else (if not (eqb (a .spare) 0) then Spare
     else Sound)))
 
-abbrev pub isSound : Fault → Bool
-isSound Sound = true
-isSound Node = false
-isSound EqualEnds = false
-isSound Length = false
-isSound Spare = false
+-- the number returned for each
+abbrev pub faultNumber : Fault → ℕ
+faultNumber Sound = 0
+faultNumber Node = 9
+faultNumber EqualEnds = 9
+faultNumber Length = 9
+faultNumber Spare = 9
 
--- every field of every arc is in its range
+-- the number for the first arc that has a fault, or 0
+unfoldable pub arcsNumber : List Arc → ℕ
+arcsNumber [] = 0
+arcsNumber (a ∷ arcs) = if eqb (faultNumber (faultOf a)) 0 then arcsNumber arcs else faultNumber (faultOf a)
+
 unfoldable pub allSound : List Arc → Bool
-allSound [] = true
-allSound (a ∷ arcs) = isSound (faultOf a) && allSound arcs
+allSound arcs = eqb (arcsNumber arcs) 0

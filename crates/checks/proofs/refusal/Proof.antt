@@ -1,11 +1,10 @@
 -- `checks::refusal` meets its contract: each return is the case that the tests before it lead to. Assumes nothing.
-use mathlib.Core.Path.{sym, _∙_}
+use mathlib.Core.Path.{_∙_}
 use native.Mathlib.Omega.{arith}
 use borrow.Author.Needs.{needs}
-use borrow.Author.Tests.{not-true, not-false}
 use Rattle.problem.specs.Reply.{refusal}
 use Rattle.arcs.proofs.Picks.{picks}
-use Rattle.checks.proofs.CheckLaws.{refused-request, refused-arcs, refused-none}
+use Rattle.checks.proofs.CheckLaws.{refused-request, refused-arcs}
 use Rattle.checks.proofs.refusal.Statement.{statement}
 use Rattle.checks.proofs.refusal.Tie as tie
 
@@ -24,14 +23,9 @@ reply-short c = search (picks, arith)
 of-request : tie.Need-returns-4
 of-request c = refused-request _ _ _ _ (omega arith) (c .before .request-refusal .ensures) (c .if4 .taken)
 
-arc-faulty : tie.Need-returns-5
-arc-faulty c = refused-arcs _ _ _ _ (omega arith) (c .before .before .before .request-refusal .ensures) (c .before .before .if4 .left)
-    (sym (c .before .all-sound .ensures) ∙ not-true _ (c .if5 .taken))
-
-none : tie.Need-returns-6
-none c = refused-none _ _ _ _ (omega arith) (c .before .before .before .request-refusal .ensures) (c .before .before .if4 .left)
-    (sym (c .before .all-sound .ensures) ∙ not-false _ (c .if5 .left))
+of-arcs : tie.Need-returns-5
+of-arcs c = c .refusal .ensures ∙ refused-arcs _ _ _ _ (omega arith) (c .before .before .request-refusal .ensures) (c .before .if4 .left)
 
 pub refusal-spec : {M : Type 1} → statement M
 refusal-spec =
-    tie.close (tie.spec table-long table-ragged reply-short (search needs) of-request (search needs) arc-faulty none)
+    tie.close (tie.spec table-long table-ragged reply-short (search needs) of-request (search needs) of-arcs)
