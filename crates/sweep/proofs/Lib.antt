@@ -4,3 +4,4 @@ pub mod FoldLaws
 pub mod MainLaws
 pub mod SweptLaws
 pub mod StepLaws
+pub mod LentLaws

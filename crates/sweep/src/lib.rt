@@ -67,7 +67,7 @@ fn longer(a: u64, b: u64) -> u64
 }
 
 // The tally after one more main.
-pub fn take_main(net: &[u64], cap: u64, metres: u64, risks: u64, t: Tally) -> Tally
+fn take_main(net: &[u64], cap: u64, metres: u64, risks: u64, t: Tally) -> Tally
     requires { ⌜ Net (now net) × (metres ≤ mostReach) ⌝ }
     ensures { λ r. ⌜ r ≡ taken (arcsIn (now (net .entry))) (wordAt (now (net .entry)) sourceAt) (wordAt (now (net .entry)) terminalAt) (wordAt (now (net .entry)) reachAt) cap metres risks t ⌝ }
 {
@@ -92,6 +92,26 @@ pub fn take_main(net: &[u64], cap: u64, metres: u64, risks: u64, t: Tally) -> Ta
     }
 }
 
+// Brings a lent tally up to date by one more main (01, When a reply is settled). Thin, because a function over a lent struct is proved by a walk by hand: the work is `take_main`'s.
+fn step(t: &mut Tally, net: &[u64], cap: u64, metres: u64, risks: u64)
+    requires { ⌜ Net (now net) × (metres ≤ mostReach) ⌝ }
+    ensures { λ _. ⌜ now (t .exit) ≡ taken (arcsIn (now (net .entry))) (wordAt (now (net .entry)) sourceAt) (wordAt (now (net .entry)) terminalAt) (wordAt (now (net .entry)) reachAt) cap metres risks (now (t .entry)) ⌝ }
+{
+    let v = *t;
+    let w = take_main(net, cap, metres, risks, v);
+    *t = w;
+}
+
+// The tally after it was lent to one step. Who calls this holds the tally by value, and needs no walk.
+fn lend_tally(net: &[u64], cap: u64, metres: u64, risks: u64, t: Tally) -> Tally
+    requires { ⌜ Net (now net) × (metres ≤ mostReach) ⌝ }
+    ensures { λ r. ⌜ r ≡ taken (arcsIn (now (net .entry))) (wordAt (now (net .entry)) sourceAt) (wordAt (now (net .entry)) terminalAt) (wordAt (now (net .entry)) reachAt) cap metres risks t ⌝ }
+{
+    let mut s = t;
+    step(&mut s, net, cap, metres, risks);
+    s
+}
+
 // The tally after a route of so many metres ended within the window's end.
 fn end_route(net: &[u64], w: Window, metres: u64, risks: u64, t: Tally) -> Tally
     requires { ⌜ Net (now net) × (metres ≤ mostReach) ⌝ }
@@ -100,7 +120,7 @@ fn end_route(net: &[u64], w: Window, metres: u64, risks: u64, t: Tally) -> Tally
     if metres < w.lo {
         return t;
     }
-    take_main(net, w.cap, metres, risks, t)
+    lend_tally(net, w.cap, metres, risks, t)
 }
 
 fn past(kind: u8, next: u64, to: u64) -> Leg

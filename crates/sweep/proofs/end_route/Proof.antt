@@ -9,12 +9,12 @@ returns : tie.Need-returns
 unfolding ended
 returns c = rw (lt-ltb _ _ (c .if1 .taken), ended)
 
-take-main-requires : tie.Need-take-main-requires
-take-main-requires c κs = search needs
+lend-tally-requires : tie.Need-lend-tally-requires
+lend-tally-requires c κs = search needs
 
 returns-2 : tie.Need-returns-2
 unfolding ended
-returns-2 c = rw (le-ltb _ _ (c .before .if1 .left), ended) (c .take-main .ensures)
+returns-2 c = rw (le-ltb _ _ (c .before .if1 .left), ended) (c .lend-tally .ensures)
 
 pub end-route-spec : {M : Type 1} → statement M
-end-route-spec = tie.close (tie.spec returns take-main-requires returns-2)
+end-route-spec = tie.close (tie.spec returns lend-tally-requires returns-2)
