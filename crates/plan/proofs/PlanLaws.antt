@@ -148,6 +148,9 @@ module _ (net : List ℕ) (words : Net net) where
           width-range = h;
         }
 
+    pub going-narrower : {t : Tally} {cur width less : ℕ} → Going net allowance low t cur width → less ≤ width → Going net allowance low t cur less
+    going-narrower g h = record { tally-is = g .tally-is; allowed = g .allowed; not-met = g .not-met; width-range = omega (arith, g .width-range) }
+
     pub going-turning : {t : Tally} {cur width : ℕ} → Going net allowance low t cur width → cur ≤ wordAt net reachAt → Turning net allowance t cur width
     going-turning g h = record { tally-is = g .tally-is; allowed = g .allowed; few = planning .few; cur-range = h; width-range = g .width-range }
 

@@ -1,4 +1,6 @@
 // Windows of lengths, one after the other: the tally of all routes shorter than some length grows until it says how the reply ends.
+mod aim;
+
 use sweep::Swept;
 use sweep::Tally;
 use sweep::Window;
@@ -177,8 +179,10 @@ pub fn plan(net: &[u64], allowance: u64, floor: u64) -> Run
     let mut t = no_tally();
     let mut cur = net::lower(net, net::source(net));
     let mut width = smaller(cur / 8, WIDEST);
+    let mut end = aim::UNKNOWN;
     while cur <= reach {
-        let r = try_window(net, allowance, floor, t, cur, width);
+        let a = aim::narrow(net, allowance, t.ranked, cur, width, end);
+        let r = try_window(net, allowance, floor, t, cur, a.width);
         let u = r.tally;
         if r.end != 3 {
             return Run {
@@ -189,6 +193,7 @@ pub fn plan(net: &[u64], allowance: u64, floor: u64) -> Run
         t = u;
         cur = r.cur;
         width = r.width;
+        end = a.end;
     }
     Run { tally: t, end: 1 }
 }

@@ -138,7 +138,7 @@ fn past(kind: u8, next: u64, to: u64) -> Leg
 }
 
 // What arc i is to a sweep up to hi.
-fn look(net: &[u64], i: u64, met: u64, metres: u64, risks: u64, hi: u64) -> Leg
+pub fn look(net: &[u64], i: u64, met: u64, metres: u64, risks: u64, hi: u64) -> Leg
     requires { ⌜ Net (now net) × (i < length (arcsIn (now net))) × (metres ≤ mostReach) ⌝ }
     ensures next { λ r. ⌜ r .next ≡ wordAt (now (net .entry)) (nextFrom + i) ⌝ }
     ensures seen { λ r. ⌜ Seen (wordAt (now (net .entry)) terminalAt) hi (wordAt (now (net .entry)) (lowerFrom + arcAt (arcsIn (now (net .entry))) i .head)) met metres risks (arcAt (arcsIn (now (net .entry))) i) r ⌝ }
