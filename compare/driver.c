@@ -8,7 +8,10 @@
  * beginning exactly after one, and with each at an odd address, or NULL where it is empty. One byte read or written
  * outside either then ends the driver with a message, and so does a changed byte of the table or of the guard on the
  * reply's open side. The reply is filled before each call, not alike in all rounds; each byte of it must come out the
- * same in every round, or untouched in every round. The driver knows nothing else of the rules: its reader judges. */
+ * same in every round, or untouched in every round. The driver knows nothing else of the rules: its reader judges.
+ *
+ * Each call runs on a stack of STACK bytes with a page without access below it, so one that needs more ends the driver;
+ * how much was ever used is told at the end. */
 #define _DEFAULT_SOURCE
 #include "feshangul.h"
 
@@ -17,6 +20,7 @@
 #include <stdlib.h>
 #include <string.h>
 #include <sys/mman.h>
+#include <ucontext.h>
 #include <unistd.h>
 
 enum {
@@ -25,6 +29,8 @@ enum {
     GUARD = 4096,       /* bytes watched on the reply's open side */
     ROOM = MOST + EDGE, /* a buffer and its guard, in whole pages */
     GUARD_BYTE = 0xC3,
+    STACK = 65536,      /* bytes of stack that a call may use */
+    STACK_BYTE = 0x5A,
     SECONDS = 120       /* for one call; meshes that can be listed take far less than one */
 };
 
@@ -40,7 +46,7 @@ static const char *const round_words[ROUNDS] = {
     "buffers at odd addresses, NULL for what is empty",
 };
 
-static uint8_t *table_room, *reply_room;
+static uint8_t *table_room, *reply_room, *stack_room;
 static unsigned long cases, calls, null_calls;
 static enum round current; /* for messages */
 
@@ -61,12 +67,18 @@ static void stop_at_signal(int number)
     _exit(write(STDERR_FILENO, line, (size_t)length) == length ? 3 : 4);
 }
 
+/* On a stack of its own, since a call may have run out of its stack. */
 static void watch_signals(void)
 {
     static const int signals[] = { SIGSEGV, SIGBUS, SIGILL, SIGFPE, SIGABRT, SIGALRM };
+    static uint8_t room[65536];
+    stack_t stack = { .ss_sp = room, .ss_size = sizeof room };
+    struct sigaction action = { .sa_handler = stop_at_signal, .sa_flags = SA_ONSTACK };
 
+    if (sigaltstack(&stack, NULL) != 0)
+        stop("no stack for signals");
     for (size_t i = 0; i < sizeof signals / sizeof signals[0]; i++)
-        signal(signals[i], stop_at_signal);
+        sigaction(signals[i], &action, NULL);
 }
 
 /* ROOM bytes with EDGE bytes without access before and after them. */
@@ -109,6 +121,49 @@ static uint8_t filling(uint32_t place, enum round round)
     return round == BEGINNING ? (uint8_t)~byte : byte;
 }
 
+/* A call as it goes to the small stack and comes back from it. */
+static struct {
+    const struct request *request;
+    const uint8_t *table;
+    uint8_t *reply;
+    uint32_t number;
+    ucontext_t there, back;
+} call;
+
+static void run_call(void)
+{
+    const struct request *r = call.request;
+
+    call.number = feshangul_plan(call.table, r->table_len, call.reply, r->reply_len, r->source, r->terminal, r->reach,
+                                 r->allowance);
+}
+
+static uint32_t call_on_small_stack(const struct request *r, const uint8_t *table, uint8_t *reply)
+{
+    call.request = r;
+    call.table = table;
+    call.reply = reply;
+    if (getcontext(&call.there) != 0)
+        stop("no context for the call");
+    call.there.uc_stack.ss_sp = stack_room;
+    call.there.uc_stack.ss_size = STACK;
+    call.there.uc_link = &call.back;
+    makecontext(&call.there, run_call, 0);
+    if (swapcontext(&call.back, &call.there) != 0)
+        stop("no way to the small stack");
+    return call.number;
+}
+
+/* How many bytes of the small stack were ever written. */
+static size_t stack_used(void)
+{
+    size_t untouched = 0;
+
+    while (untouched < STACK && stack_room[untouched] == STACK_BYTE)
+        untouched++;
+    return STACK - untouched;
+}
+
 /* Makes one call and returns its number; `after` gets what the reply buffer then holds. */
 static uint32_t call_planner(const struct request *r, const uint8_t *bytes, enum round round, uint8_t *after)
 {
@@ -125,8 +180,7 @@ static uint32_t call_planner(const struct request *r, const uint8_t *bytes, enum
 
     calls++;
     alarm(SECONDS);
-    uint32_t number = feshangul_plan(table, r->table_len, reply, r->reply_len, r->source, r->terminal, r->reach,
-                                     r->allowance);
+    uint32_t number = call_on_small_stack(r, table, reply);
     alarm(0);
 
     if (r->table_len != 0 && memcmp(table, bytes, r->table_len) != 0)
@@ -193,6 +247,8 @@ int main(void)
 
     table_room = fenced_room();
     reply_room = fenced_room();
+    stack_room = fenced_room();
+    memset(stack_room, STACK_BYTE, STACK);
     watch_signals();
     for (; read_case(&r, table); cases++) {
         uint32_t number = call_planner(&r, table, ENDING, reply);
@@ -201,7 +257,7 @@ int main(void)
         null_calls += r.table_len == 0 || r.reply_len == 0;
         write_answer(number, reply, r.reply_len);
     }
-    fprintf(stderr, "driver: %lu cases, %lu calls (%lu with NULL), no byte touched outside table and reply\n", cases,
-            calls, null_calls);
+    fprintf(stderr, "driver: %lu cases, %lu calls (%lu with NULL), no byte touched outside table and reply, "
+            "at most %zu of %d bytes of stack used\n", cases, calls, null_calls, stack_used(), STACK);
     return 0;
 }
