@@ -65,10 +65,11 @@ fn plan_checked(table: &[u8], source: u8, terminal: u8, reach: u32, allowance: u
     ensures { λ r. ⌜ Planned (ranking (arcsOf (now (table .entry))) source terminal reach) allowance r ⌝ }
 {
     let side = side::side_table(table, terminal, 0);
-    if !side.reached[source as usize] {
+    let entry = side.entries[source as usize];
+    if !entry.reached {
         return nothing();
     }
-    if reach < side.metres[source as usize] {
+    if reach < entry.metres {
         return nothing();
     }
     make(table, source, terminal, reach, allowance, side)

@@ -19,10 +19,11 @@ fn narrow(left: u64, s: Side, source: u8, reach: u32) -> u64
     ensures { λ o. ⌜ o ≡ narrowed left s source reach ⌝ }
 {
     let at = source as usize;
-    if !s.reached[at] {
+    let entry = s.entries[at];
+    if !entry.reached {
         return left;
     }
-    if reach < s.metres[at] {
+    if reach < entry.metres {
         return left;
     }
     left & s.risks[at]

@@ -73,7 +73,8 @@ fn lay_nodes(net: &mut [u64], chain: &[u8], side: Side)
     while v <= arcs::LAST_NODE {
         let at = v as usize;
         let first = chain::first(chain, v) as u64;
-        let lower = lower_of(side.reached[at], side.metres[at]);
+        let entry = side.entries[at];
+        let lower = lower_of(entry.reached, entry.metres);
         let fields = [first, lower];
         spread(net, NODES_FROM + at, NODE_STEP, &fields);
         v += 1;

@@ -1,4 +1,4 @@
 pub mod StoreLaws
 pub mod FreeLaws
 pub mod RelaxLaws
-pub mod RoundLaws
+pub mod TurnLaws

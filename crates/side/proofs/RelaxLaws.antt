@@ -3,25 +3,64 @@ use mathlib.Core.Path.{_≡_, refl, sym, ap, _∙_}
 use mathlib.Core.Logic.{_⊎_, inl, inr, ⊎-elim}
 use mathlib.Core.Bool.{Bool, true, false, _&&_, _||_, not, false≢true}
 use mathlib.Core.List.{List, _∷_}
-use Prim.Native.Nat.{ℕ, _+_, _*_, _-_, _≤_, _<_}
+use Prim.Native.Nat.{ℕ, suc, _+_, _*_, _-_, _≤_, _<_}
 use native.Mathlib.Decide.{ℕ-discrete}
 use native.Mathlib.Omega.{arith}
 use lib.Bits.{bitAnd, bitOr}
 use lib.Dec.{eqb, ltb}
-use lib.ListN.{length, getD, set, length-set}
+use lib.ListN.{length, set, length-set}
 use lib.Seq.{getD-set-same, getD-set-other}
 use borrow.Author.Tests.{eqb-true, eq-eqb, ne-eqb, ltb-true, ltb-false}
 use Rattle.problem.specs.declared.Arc.{Arc}
 use Rattle.problem.specs.Table.{mostArcMetres, mostReach}
 use Rattle.problem.specs.Routes.{arcAt, metresOf, risksOf}
 use Rattle.problem.proofs.TableLaws.{SoundArc}
+use Rattle.side.specs.declared.Entry.{Entry}
 use Rattle.side.specs.declared.Side.{Side}
-use Rattle.side.specs.Side.{reachedAt, metresAt, risksAt, Reaches, Entries}
-use Rattle.side.specs.Relaxing.{metresBy, gainsBy, gains, nearer, count, Small}
-use Rattle.side.proofs.StoreLaws.{sum, sum-set, count-le, count-new, count-again}
+use Rattle.side.specs.Side.{unreached, entryAt, reachedAt, metresAt, risksAt, Reaches, Entries}
+use Rattle.side.specs.Relaxing.{over, isNearer, nearerOf, relaxedIn, gainsBy, Fits}
+use Rattle.side.proofs.StoreLaws.{total, count, total-set, count-le, count-new, count-again}
 use Rattle.side.proofs.FreeLaws.{free-over}
 
+-- ---- two entries: what the code returns, test by test
+
+module _ (tail head : Entry) (metres : ℕ) where
+  pub nearer-unreached : head .reached ≡ false → false ≡ isNearer tail head metres
+  unfolding isNearer
+  nearer-unreached h = rw h
+
+  pub nearer-new : head .reached ≡ true → tail .reached ≡ false → true ≡ isNearer tail head metres
+  unfolding isNearer
+  nearer-new h t = rw (h, t)
+
+  pub nearer-less : head .reached ≡ true → tail .reached ≡ true → ltb (head .metres + metres) (tail .metres) ≡ isNearer tail head metres
+  unfolding isNearer
+  nearer-less h t = rw (h, t)
+
+  pub nearer-if : isNearer tail head metres ≡ true → over head metres ≡ nearerOf tail head metres
+  unfolding nearerOf
+  nearer-if e = rw e
+
+  pub nearer-not : isNearer tail head metres ≡ false → tail ≡ nearerOf tail head metres
+  unfolding nearerOf
+  nearer-not e = rw e
+
 -- ---- when an arc gains
+
+-- the length from the arc's tail, over the arc and then as the head's entry says
+unfoldable pub metresBy : Side → Arc → ℕ
+metresBy s a = metresAt s (a .head) + a .metres
+
+abbrev pub gains : ℕ → Side → Arc → Bool
+gains banned s a = gainsBy banned a (entryAt s (a .tail)) (entryAt s (a .head))
+
+-- the tail's entry made anew
+unfoldable pub nearer : Side → Arc → Side
+nearer s a =
+    record {
+      entries = set (s .entries) (a .tail) (over (entryAt s (a .head)) (a .metres));
+      risks = set (s .risks) (a .tail) (bitOr (a .risks) (risksAt s (a .head)));
+    }
 
 -- the arc is free, its head is reached, and its tail is not reached or gets nearer
 pub record Gained (banned : ℕ) (s : Side) (a : Arc) : Type 0 where
@@ -35,6 +74,10 @@ tests-held true true true l p = (refl, refl, inr p)
 tests-held true false t l p = absurd (false≢true p)
 tests-held false h t l p = absurd (false≢true p)
 
+last-held : (free nearer : Bool) → (free && nearer) ≡ true → nearer ≡ true
+last-held true n p = p
+last-held false n p = absurd (false≢true p)
+
 tests-failed : (tail less : Bool) → (not tail || less) ≡ false → (tail ≡ true) × (less ≡ false)
 tests-failed true false p = (refl, refl)
 tests-failed true true p = absurd (false≢true (sym p))
@@ -42,102 +85,144 @@ tests-failed false l p = absurd (false≢true (sym p))
 
 module _ (banned : ℕ) (s : Side) (a : Arc) where
   pub gains-gained : gains banned s a ≡ true → Gained banned s a
-  unfolding gainsBy metresBy
+  unfolding gainsBy isNearer metresBy
   gains-gained e =
       let t = tests-held (eqb (bitAnd (a .risks) banned) 0) (reachedAt s (a .head)) (reachedAt s (a .tail)) (ltb (metresBy s a) (metresAt s (a .tail))) e in
       record { free = eqb-true _ _ (t .0); head-reached = t .1; tail-nearer = ⊎-elim inl (λ l. inr (ltb-true _ _ l)) (t .2) }
 
   -- a free arc with a reached head that gains nothing: its tail is near enough
   pub gains-not : gains banned s a ≡ false → bitAnd (a .risks) banned ≡ 0 → reachedAt s (a .head) ≡ true → (reachedAt s (a .tail) ≡ true) × (metresAt s (a .tail) ≤ metresBy s a)
-  unfolding gainsBy metresBy
+  unfolding gainsBy isNearer metresBy
   gains-not e f h =
       let t = tests-failed (reachedAt s (a .tail)) (ltb (metresBy s a) (metresAt s (a .tail))) (rw (eq-eqb _ _ f, h) at e) in
       (t .0, ltb-false _ _ (t .1))
 
--- what the code of `gains` returns, test by test
-module _ (banned : ℕ) (a : Arc) (head : Bool) (headMetres : ℕ) (tail : Bool) (tailMetres : ℕ) where
-  pub gains-banned : (bitAnd (a .risks) banned ≡ 0 → ⊥) → false ≡ gainsBy banned a head headMetres tail tailMetres
+  -- where an arc gains, relaxing it makes the tail's entry anew
+  pub relaxed-nearer : (es : List Entry) (risks : List ℕ) → gains banned s a ≡ true → es ≡ relaxedIn (s .entries) (a .tail) (a .head) (a .metres)
+      → risks ≡ set (s .risks) (a .tail) (bitOr (a .risks) (risksAt s (a .head))) → _≡_ {A = Side} (record { entries = es; risks = risks }) (nearer s a)
+  unfolding gainsBy relaxedIn nearer
+  relaxed-nearer es risks e is-relaxed is-risks =
+      rw (is-relaxed, is-risks, ← nearer-if (entryAt s (a .tail)) (entryAt s (a .head)) (a .metres) (last-held (eqb (bitAnd (a .risks) banned) 0) _ e))
+
+-- what the code of `gains` returns
+module _ (banned : ℕ) (a : Arc) (tail head : Entry) where
+  pub gains-banned : (bitAnd (a .risks) banned ≡ 0 → ⊥) → false ≡ gainsBy banned a tail head
   unfolding gainsBy
   gains-banned n = rw (ne-eqb _ _ n)
 
-  pub gains-unreached : bitAnd (a .risks) banned ≡ 0 → head ≡ false → false ≡ gainsBy banned a head headMetres tail tailMetres
+  pub gains-free : bitAnd (a .risks) banned ≡ 0 → isNearer tail head (a .metres) ≡ gainsBy banned a tail head
   unfolding gainsBy
-  gains-unreached f h = rw (eq-eqb _ _ f, h)
+  gains-free f = rw (eq-eqb _ _ f)
 
-  pub gains-new : bitAnd (a .risks) banned ≡ 0 → head ≡ true → tail ≡ false → true ≡ gainsBy banned a head headMetres tail tailMetres
-  unfolding gainsBy
-  gains-new f h t = rw (eq-eqb _ _ f, h, t)
+-- ---- the table that an arc leaves
 
-  pub gains-less : bitAnd (a .risks) banned ≡ 0 → head ≡ true → tail ≡ true → ltb (headMetres + a .metres) tailMetres ≡ gainsBy banned a head headMetres tail tailMetres
-  unfolding gainsBy
-  gains-less f h t = rw (eq-eqb _ _ f, h, t)
+module _ (s : Side) (a : Arc) where
+  abbrev over-arc : Entry
+  over-arc = over (entryAt s (a .head)) (a .metres)
+
+  entry-tail : a .tail < length (s .entries) → entryAt (nearer s a) (a .tail) ≡ over-arc
+  unfolding nearer
+  entry-tail h = getD-set-same (s .entries) (a .tail) over-arc unreached h
+
+  entry-other : (v : ℕ) → (v ≡ a .tail → ⊥) → entryAt (nearer s a) v ≡ entryAt s v
+  unfolding nearer
+  entry-other v n = getD-set-other (s .entries) (a .tail) v over-arc unreached n
+
+  risks-tail : a .tail < length (s .risks) → risksAt (nearer s a) (a .tail) ≡ bitOr (a .risks) (risksAt s (a .head))
+  unfolding nearer
+  risks-tail h = getD-set-same (s .risks) (a .tail) (bitOr (a .risks) (risksAt s (a .head))) 0 h
+
+  risks-other : (v : ℕ) → (v ≡ a .tail → ⊥) → risksAt (nearer s a) v ≡ risksAt s v
+  unfolding nearer
+  risks-other v n = getD-set-other (s .risks) (a .tail) v (bitOr (a .risks) (risksAt s (a .head))) 0 n
+
+  reached-tail : a .tail < length (s .entries) → reachedAt (nearer s a) (a .tail) ≡ true
+  unfolding over
+  reached-tail h = ap (λ (e : Entry). e .reached) (entry-tail h)
+
+  metres-tail : a .tail < length (s .entries) → metresAt (nearer s a) (a .tail) ≡ metresBy s a
+  unfolding over metresBy
+  metres-tail h = ap (λ (e : Entry). e .metres) (entry-tail h)
 
 -- ---- lengths stay small
 
+-- lengths so small that sums fit: each node reached, but for the terminal, adds one arc at the most
+pub record Small (s : Side) : Type 0 where
+  pub entries-size : length (s .entries) ≡ 32
+  pub risks-size : length (s .risks) ≡ 32
+  pub arc-each : (v : ℕ) → metresAt s v + mostArcMetres ≤ mostArcMetres * count (s .entries)
+
 -- falls with each arc that gains: one is nearer, or a node more is reached, which weighs more than any length
 unfoldable pub cost : Side → ℕ
-cost s = sum (s .metres) + 100000000 * (32 - count (s .reached))
+cost s = total (λ (e : Entry). e .metres) (s .entries) + 100000000 * (32 - count (s .entries))
 
 pub small-most : {s : Side} → Small s → (v : ℕ) → metresAt s v ≤ mostReach
-small-most {s} small v = omega (arith, small .arc-each v, count-le (s .reached), small .reached-size)
+small-most {s} small v = omega (arith, small .arc-each v, count-le (s .entries), small .entries-size)
+
+-- a sound arc can be relaxed
+pub small-fits : {s : Side} {a : Arc} → Small s → SoundArc a → Fits (s .entries) (a .tail) (a .head) (a .metres)
+small-fits {s} {a} small sound = omega (arith, small .entries-size, small-most small (a .head), sound .tail-node, sound .head-node, sound .metres-range)
 
 -- the arc's tail has an entry
-pub record HasEntry (s : Side) (v : ℕ) : Type 0 where
-  pub in-metres : v < length (s .metres)
-  pub in-reached : v < length (s .reached)
+record HasEntry (s : Side) (v : ℕ) : Type 0 where
+  pub in-entries : v < length (s .entries)
   pub in-risks : v < length (s .risks)
 
 tail-entry : {s : Side} {a : Arc} → SoundArc a → Small s → HasEntry s (a .tail)
-tail-entry sound small = omega (arith, sound .tail-node, small .metres-size, small .reached-size, small .risks-size)
+tail-entry sound small = omega (arith, sound .tail-node, small .entries-size, small .risks-size)
 
 module _ (banned : ℕ) (s : Side) (a : Arc) (sound : SoundArc a) (small : Small s) (gain : Gained banned s a) where
-  entry : HasEntry s (a .tail)
-  entry = tail-entry sound small
+  tail-inside : a .tail < length (s .entries)
+  tail-inside = tail-entry sound small .in-entries
 
   abbrev after : ℕ
-  after = count (set (s .reached) (a .tail) true)
+  after = count (nearer s a .entries)
+
+  -- the tail counts one more where it is new, else as before
+  after-new : reachedAt s (a .tail) ≡ false → after ≡ suc (count (s .entries))
+  unfolding nearer over
+  after-new e = count-new (s .entries) (a .tail) _ tail-inside e refl
+
+  after-again : reachedAt s (a .tail) ≡ true → after ≡ count (s .entries)
+  unfolding nearer over
+  after-again e = count-again (s .entries) (a .tail) _ tail-inside e refl
 
   -- the tail is new and counts one more, or it is near enough as it was
-  new-small : (metresBy s a + mostArcMetres ≤ mostArcMetres * after) × (count (s .reached) ≤ after)
+  new-small : (metresBy s a + mostArcMetres ≤ mostArcMetres * after) × (count (s .entries) ≤ after)
   unfolding metresBy
   new-small = go (reachedAt s (a .tail)) refl (gain .tail-nearer)
     where
-      go : (t : Bool) → reachedAt s (a .tail) ≡ t → (reachedAt s (a .tail) ≡ false) ⊎ (metresBy s a < metresAt s (a .tail)) → (metresBy s a + mostArcMetres ≤ mostArcMetres * after) × (count (s .reached) ≤ after)
-      go false e g =
-          let n = count-new (s .reached) (a .tail) (entry .in-reached) e in
-          (omega (arith, n, small .arc-each (a .head), sound .metres-range), omega (arith, n))
+      go : (t : Bool) → reachedAt s (a .tail) ≡ t → (reachedAt s (a .tail) ≡ false) ⊎ (metresBy s a < metresAt s (a .tail)) → (metresBy s a + mostArcMetres ≤ mostArcMetres * after) × (count (s .entries) ≤ after)
+      go false e g = (omega (arith, after-new e, small .arc-each (a .head), sound .metres-range), omega (arith, after-new e))
       go true e (inl z) = absurd (false≢true (sym z ∙ e))
-      go true e (inr l) =
-          let n = count-again (s .reached) (a .tail) e in
-          (omega (arith, n, small .arc-each (a .tail)), omega (arith, n))
+      go true e (inr l) = (omega (arith, after-again e, small .arc-each (a .tail)), omega (arith, after-again e))
 
   pub small-nearer : Small (nearer s a)
   unfolding nearer
   small-nearer = record {
-    metres-size = length-set (s .metres) (a .tail) _ ∙ small .metres-size;
-    reached-size = length-set (s .reached) (a .tail) _ ∙ small .reached-size;
+    entries-size = length-set (s .entries) (a .tail) _ ∙ small .entries-size;
     risks-size = length-set (s .risks) (a .tail) _ ∙ small .risks-size;
     arc-each = λ v. go v (ℕ-discrete v (a .tail));
   }
     where
-      go : (v : ℕ) → Dec (v ≡ a .tail) → getD (set (s .metres) (a .tail) (metresBy s a)) v 0 + mostArcMetres ≤ mostArcMetres * after
-      go v (yes e) = rw (e, getD-set-same (s .metres) (a .tail) (metresBy s a) 0 (entry .in-metres)) (new-small .0)
-      go v (no n) = omega (arith, getD-set-other (s .metres) (a .tail) v (metresBy s a) 0 n, small .arc-each v, new-small .1)
+      go : (v : ℕ) → Dec (v ≡ a .tail) → metresAt (nearer s a) v + mostArcMetres ≤ mostArcMetres * after
+      go v (yes e) = omega (arith, ap (metresAt (nearer s a)) e, metres-tail s a tail-inside, new-small .0)
+      go v (no n) = omega (arith, ap (λ (e : Entry). e .metres) (entry-other s a v n), small .arc-each v, new-small .1)
 
   pub cost-nearer : cost (nearer s a) < cost s
-  unfolding cost nearer metresBy
+  unfolding cost nearer over metresBy
   cost-nearer = go (reachedAt s (a .tail)) refl (gain .tail-nearer)
     where
-      total : sum (set (s .metres) (a .tail) (metresBy s a)) + metresAt s (a .tail) ≡ sum (s .metres) + metresBy s a
-      total = sum-set (s .metres) (a .tail) (metresBy s a) (entry .in-metres)
+      lengths : total (λ (e : Entry). e .metres) (nearer s a .entries) + metresAt s (a .tail) ≡ total (λ (e : Entry). e .metres) (s .entries) + metresBy s a
+      lengths = total-set (λ (e : Entry). e .metres) (s .entries) (a .tail) _ tail-inside
 
       full : after ≤ 32
-      full = omega (arith, count-le (set (s .reached) (a .tail) true), length-set (s .reached) (a .tail) true, small .reached-size)
+      full = omega (arith, count-le (nearer s a .entries), small-nearer .entries-size)
 
       go : (t : Bool) → reachedAt s (a .tail) ≡ t → (reachedAt s (a .tail) ≡ false) ⊎ (metresBy s a < metresAt s (a .tail)) → cost (nearer s a) < cost s
-      go false e g = omega (arith, total, full, count-new (s .reached) (a .tail) (entry .in-reached) e, small-most small (a .head), sound .metres-range)
+      go false e g = omega (arith, lengths, full, after-new e, small-most small (a .head), sound .metres-range)
       go true e (inl z) = absurd (false≢true (sym z ∙ e))
-      go true e (inr l) = omega (arith, total, l, count-again (s .reached) (a .tail) e)
+      go true e (inr l) = omega (arith, lengths, l, after-again e)
 
 -- ---- entries stay those of free ways
 
@@ -149,11 +234,8 @@ module _ (arcs : List Arc) (terminal banned : ℕ) (s : Side) (k : ℕ) (inside 
   abbrev a : Arc
   a = arcAt arcs k
 
-  abbrev newRisks : ℕ
-  newRisks = bitOr (a .risks) (risksAt s (a .head))
-
   -- the tail's new entry: the arc, and then the head's way
-  new-reaches : Reaches arcs terminal banned (a .tail) (metresBy s a) newRisks
+  new-reaches : Reaches arcs terminal banned (a .tail) (metresBy s a) (bitOr (a .risks) (risksAt s (a .head)))
   unfolding metresBy metresOf risksOf
   new-reaches =
       let h = entries .reaches (a .head) (gain .head-reached) in
@@ -172,35 +254,29 @@ module _ (arcs : List Arc) (terminal banned : ℕ) (s : Side) (k : ℕ) (inside 
       (gain .tail-nearer)
 
   pub entries-nearer : Entries arcs terminal banned (nearer s a)
-  unfolding nearer
   entries-nearer = record {
     reaches = λ v e. reaches-at v e (ℕ-discrete v (a .tail));
     no-metres = λ v e. none-at v e (ℕ-discrete v (a .tail)) .0;
     no-risks = λ v e. none-at v e (ℕ-discrete v (a .tail)) .1;
-    terminal-reached = other-flag terminal not-terminal ∙ entries .terminal-reached;
+    terminal-reached = other-reached terminal not-terminal ∙ entries .terminal-reached;
     terminal-metres = other-metres terminal not-terminal ∙ entries .terminal-metres;
   }
     where
-      other-flag : (v : ℕ) → (v ≡ a .tail → ⊥) → getD (set (s .reached) (a .tail) true) v false ≡ reachedAt s v
-      other-flag v n = getD-set-other (s .reached) (a .tail) v true false n
+      has : HasEntry s (a .tail)
+      has = tail-entry sound small
 
-      other-metres : (v : ℕ) → (v ≡ a .tail → ⊥) → getD (set (s .metres) (a .tail) (metresBy s a)) v 0 ≡ metresAt s v
-      other-metres v n = getD-set-other (s .metres) (a .tail) v (metresBy s a) 0 n
+      other-reached : (v : ℕ) → (v ≡ a .tail → ⊥) → reachedAt (nearer s a) v ≡ reachedAt s v
+      other-reached v n = ap (λ (e : Entry). e .reached) (entry-other s a v n)
 
-      other-risks : (v : ℕ) → (v ≡ a .tail → ⊥) → getD (set (s .risks) (a .tail) newRisks) v 0 ≡ risksAt s v
-      other-risks v n = getD-set-other (s .risks) (a .tail) v newRisks 0 n
+      other-metres : (v : ℕ) → (v ≡ a .tail → ⊥) → metresAt (nearer s a) v ≡ metresAt s v
+      other-metres v n = ap (λ (e : Entry). e .metres) (entry-other s a v n)
 
-      reaches-at : (v : ℕ) → getD (set (s .reached) (a .tail) true) v false ≡ true → Dec (v ≡ a .tail)
-          → Reaches arcs terminal banned v (getD (set (s .metres) (a .tail) (metresBy s a)) v 0) (getD (set (s .risks) (a .tail) newRisks) v 0)
-      reaches-at v e (yes q) = rw q
-          (reaches-is new-reaches
-          (sym (getD-set-same (s .metres) (a .tail) (metresBy s a) 0 (tail-entry sound small .in-metres)))
-          (sym (getD-set-same (s .risks) (a .tail) newRisks 0 (tail-entry sound small .in-risks))))
-      reaches-at v e (no n) = reaches-is (entries .reaches v (sym (other-flag v n) ∙ e)) (sym (other-metres v n)) (sym (other-risks v n))
+      reaches-at : (v : ℕ) → reachedAt (nearer s a) v ≡ true → Dec (v ≡ a .tail) → Reaches arcs terminal banned v (metresAt (nearer s a) v) (risksAt (nearer s a) v)
+      reaches-at v e (yes q) = rw q (reaches-is new-reaches (sym (metres-tail s a (has .in-entries))) (sym (risks-tail s a (has .in-risks))))
+      reaches-at v e (no n) = reaches-is (entries .reaches v (sym (other-reached v n) ∙ e)) (sym (other-metres v n)) (sym (risks-other s a v n))
 
-      none-at : (v : ℕ) → getD (set (s .reached) (a .tail) true) v false ≡ false → Dec (v ≡ a .tail)
-          → (getD (set (s .metres) (a .tail) (metresBy s a)) v 0 ≡ 0) × (getD (set (s .risks) (a .tail) newRisks) v 0 ≡ 0)
-      none-at v e (yes q) = absurd (false≢true (sym e ∙ (ap (λ (u : ℕ). getD (set (s .reached) (a .tail) true) u false) q ∙ getD-set-same (s .reached) (a .tail) true false (tail-entry sound small .in-reached))))
+      none-at : (v : ℕ) → reachedAt (nearer s a) v ≡ false → Dec (v ≡ a .tail) → (metresAt (nearer s a) v ≡ 0) × (risksAt (nearer s a) v ≡ 0)
+      none-at v e (yes q) = absurd (false≢true (sym e ∙ (ap (reachedAt (nearer s a)) q ∙ reached-tail s a (has .in-entries))))
       none-at v e (no n) =
-          let f : reachedAt s v ≡ false = sym (other-flag v n) ∙ e in
-          (other-metres v n ∙ entries .no-metres v f, other-risks v n ∙ entries .no-risks v f)
+          let f : reachedAt s v ≡ false = sym (other-reached v n) ∙ e in
+          (other-metres v n ∙ entries .no-metres v f, risks-other s a v n ∙ entries .no-risks v f)

@@ -1,39 +1,45 @@
--- Lists after one store: the sum of the numbers, the count of the flags. Assumes nothing.
-use mathlib.Core.Path.{_≡_, refl, sym, ap, _∙_}
-use mathlib.Core.Bool.{Bool, true, false, false≢true}
+-- A list of entries after one store: what it adds up to, how many are reached. Assumes nothing.
+use mathlib.Core.Path.{_≡_, ap}
+use mathlib.Core.Bool.{Bool, true, false}
 use mathlib.Core.List.{List, [], _∷_}
 use Prim.Native.Nat.{ℕ, zero, suc, _+_, _≤_, _<_}
 use native.Mathlib.Nat.{not-suc-le-zero, le-of-suc-le-suc}
 use native.Mathlib.Omega.{arith}
 use lib.ListN.{length, getD, set}
-use lib.Seq.{set-getD}
-use Rattle.side.specs.Relaxing.{count}
+use Rattle.laws.proofs.SetLaws.{digit}
+use Rattle.side.specs.declared.Entry.{Entry}
+use Rattle.side.specs.Side.{unreached}
 
-unfoldable pub sum : List ℕ → ℕ
-sum [] = 0
-sum (x ∷ l) = x + sum l
+-- a number of each entry, added up
+unfoldable pub total : (Entry → ℕ) → List Entry → ℕ
+total f [] = 0
+total f (e ∷ l) = f e + total f l
 
-pub sum-set : (l : List ℕ) (i x : ℕ) → i < length l → sum (set l i x) + getD l i 0 ≡ sum l + x
-unfolding sum
-sum-set [] i x h = absurd (not-suc-le-zero h)
-sum-set (y ∷ l) zero x h = omega arith
-sum-set (y ∷ l) (suc i) x h = omega (arith, sum-set l i x (le-of-suc-le-suc h))
+-- how many nodes are reached
+abbrev pub count : List Entry → ℕ
+count = total (λ (e : Entry). digit (e .reached))
 
-pub count-le : (l : List Bool) → count l ≤ length l
-unfolding count
+pub total-set : (f : Entry → ℕ) (l : List Entry) (i : ℕ) (e : Entry) → i < length l → total f (set l i e) + f (getD l i unreached) ≡ total f l + f e
+unfolding total
+total-set f [] i e h = absurd (not-suc-le-zero h)
+total-set f (x ∷ l) zero e h = omega arith
+total-set f (x ∷ l) (suc i) e h = omega (arith, total-set f l i e (le-of-suc-le-suc h))
+
+digit-le : (b : Bool) → digit b ≤ 1
+unfolding digit
+digit-le true = omega arith
+digit-le false = omega arith
+
+pub count-le : (l : List Entry) → count l ≤ length l
+unfolding total
 count-le [] = omega arith
-count-le (true ∷ l) = omega (arith, count-le l)
-count-le (false ∷ l) = omega (arith, count-le l)
+count-le (e ∷ l) = omega (arith, digit-le (e .reached), count-le l)
 
--- a flag newly set counts one more
-pub count-new : (l : List Bool) (i : ℕ) → i < length l → getD l i false ≡ false → count (set l i true) ≡ suc (count l)
-unfolding count
-count-new [] i h e = absurd (not-suc-le-zero h)
-count-new (true ∷ l) zero h e = absurd (false≢true (sym e))
-count-new (false ∷ l) zero h e = refl
-count-new (true ∷ l) (suc i) h e = ap suc (count-new l i (le-of-suc-le-suc h) e)
-count-new (false ∷ l) (suc i) h e = count-new l i (le-of-suc-le-suc h) e
+-- a reached entry stored over an unreached one counts one more; over another, as many
+pub count-new : (l : List Entry) (i : ℕ) (e : Entry) → i < length l → getD l i unreached .reached ≡ false → e .reached ≡ true → count (set l i e) ≡ suc (count l)
+unfolding digit
+count-new l i e h was is = omega (arith, total-set (λ (x : Entry). digit (x .reached)) l i e h, ap digit was, ap digit is)
 
--- a flag set again changes nothing
-pub count-again : (l : List Bool) (i : ℕ) → getD l i false ≡ true → count (set l i true) ≡ count l
-count-again l i e = ap count (ap (set l i) (sym e) ∙ set-getD l i false)
+pub count-again : (l : List Entry) (i : ℕ) (e : Entry) → i < length l → getD l i unreached .reached ≡ true → e .reached ≡ true → count (set l i e) ≡ count l
+unfolding digit
+count-again l i e h was is = omega (arith, total-set (λ (x : Entry). digit (x .reached)) l i e h, ap digit was, ap digit is)

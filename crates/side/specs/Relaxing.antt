@@ -1,55 +1,49 @@
--- Relaxing: what one arc does to a table, and what a round over all arcs does. Assumes nothing.
-use mathlib.Core.Path.{_≡_}
-use mathlib.Core.Bool.{Bool, true, false, _&&_, _||_, not}
-use mathlib.Core.List.{List, [], _∷_, foldl}
-use Prim.Native.Nat.{ℕ, suc, _+_, _*_, _≤_}
-use lib.Bits.{bitAnd, bitOr}
+-- Relaxing: what an arc does to the entries of its tail and its head, and the table with which relaxing starts. Assumes nothing.
+use mathlib.Core.Bool.{Bool, true, _&&_, _||_, not}
+use mathlib.Core.List.{List}
+use Prim.Native.Nat.{ℕ, _+_, _^_, _<_}
+use lib.Bits.{bitAnd}
 use lib.Dec.{eqb, ltb}
-use lib.ListN.{length, set}
+use lib.ListN.{length, getD, set, replicate}
 use Rattle.laws.specs.Choosing.{if_then_else_}
 use Rattle.problem.specs.declared.Arc.{Arc}
-use Rattle.problem.specs.Table.{mostArcMetres}
-use Rattle.side.specs.declared.Side.{Side}
-use Rattle.side.specs.declared.Relaxed.{Relaxed}
-use Rattle.side.specs.Side.{reachedAt, metresAt, risksAt}
+use Rattle.side.specs.declared.Entry.{Entry}
+use Rattle.side.specs.Side.{unreached}
 
--- the length from the arc's tail, over the arc and then as the head's entry says
-unfoldable pub metresBy : Side → Arc → ℕ
-metresBy s a = metresAt s (a .head) + a .metres
+-- ---- two entries and an arc between them
 
--- the arc is free, its head is reached, and over it the tail gets nearer
-unfoldable pub gainsBy : ℕ → Arc → (headReached : Bool) (headMetres : ℕ) (tailReached : Bool) (tailMetres : ℕ) → Bool
-gainsBy banned a headReached headMetres tailReached tailMetres =
-    eqb (bitAnd (a .risks) banned) 0 && (headReached && (not tailReached || ltb (headMetres + a .metres) tailMetres))
+-- over an arc of these metres, and then as the head's entry says
+unfoldable pub over : Entry → (metres : ℕ) → Entry
+over head metres = record { metres = head .metres + metres; reached = true }
 
-abbrev pub gains : ℕ → Side → Arc → Bool
-gains banned s a = gainsBy banned a (reachedAt s (a .head)) (metresAt s (a .head)) (reachedAt s (a .tail)) (metresAt s (a .tail))
+-- the head is reached, and over the arc the tail gets nearer
+unfoldable pub isNearer : (tail head : Entry) (metres : ℕ) → Bool
+isNearer tail head metres = head .reached && (not (tail .reached) || ltb (head .metres + metres) (tail .metres))
 
--- the tail's entry made anew
-unfoldable pub nearer : Side → Arc → Side
-nearer s a =
-    record {
-      metres = set (s .metres) (a .tail) (metresBy s a);
-      reached = set (s .reached) (a .tail) true;
-      risks = set (s .risks) (a .tail) (bitOr (a .risks) (risksAt s (a .head)));
-    }
+unfoldable pub nearerOf : (tail head : Entry) (metres : ℕ) → Entry
+nearerOf tail head metres = if isNearer tail head metres then over head metres else tail
 
-unfoldable pub relaxed : ℕ → Relaxed → Arc → Relaxed
-relaxed banned r a = if gains banned (r .side) a then record { side = nearer (r .side) a; changed = true } else r
+-- besides, the arc is free
+unfoldable pub gainsBy : (banned : ℕ) → Arc → (tail head : Entry) → Bool
+gainsBy banned a tail head = eqb (bitAnd (a .risks) banned) 0 && isNearer tail head (a .metres)
 
--- each arc of the table, in order
-unfoldable pub roundOf : ℕ → List Arc → Side → Relaxed
-roundOf banned arcs s = foldl (relaxed banned) (record { side = s; changed = false }) arcs
+-- ---- a lent table
 
--- how many nodes are reached
-unfoldable pub count : List Bool → ℕ
-count [] = 0
-count (true ∷ l) = suc (count l)
-count (false ∷ l) = count l
+-- both ends have entries, and the length over the arc fits
+pub record Fits (entries : List Entry) (tail head metres : ℕ) : Type 0 where
+  pub tail-inside : tail < length entries
+  pub head-inside : head < length entries
+  pub room : getD entries head unreached .metres + metres < 2 ^ 32
 
--- lengths so small that sums fit: each node reached, but for the terminal, adds one arc at the most
-pub record Small (s : Side) : Type 0 where
-  pub metres-size : length (s .metres) ≡ 32
-  pub reached-size : length (s .reached) ≡ 32
-  pub risks-size : length (s .risks) ≡ 32
-  pub arc-each : (v : ℕ) → metresAt s v + mostArcMetres ≤ mostArcMetres * count (s .reached)
+unfoldable pub relaxedIn : List Entry → (tail head metres : ℕ) → List Entry
+relaxedIn entries tail head metres = set entries tail (nearerOf (getD entries tail unreached) (getD entries head unreached) metres)
+
+-- ---- the first table, and the order of the arcs
+
+-- the first entries: only the terminal is reached
+unfoldable pub startOf : (terminal : ℕ) → List Entry
+startOf terminal = set (replicate 32 unreached) terminal (record { metres = 0; reached = true })
+
+-- the arc whose turn comes after k's
+unfoldable pub turnAfter : (k n : ℕ) → ℕ
+turnAfter k n = if eqb (k + 1) n then 0 else k + 1

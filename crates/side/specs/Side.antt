@@ -8,14 +8,22 @@ use Rattle.problem.specs.declared.Arc.{Arc}
 use Rattle.problem.specs.Table.{mostReach}
 use Rattle.problem.specs.Routes.{metresOf, risksOf}
 use Rattle.problem.proofs.WayLaws.{FreeWay}
+use Rattle.side.specs.declared.Entry.{Entry}
 use Rattle.side.specs.declared.Side.{Side}
 
+-- the entry of a node from which nothing leads on
+abbrev pub unreached : Entry
+unreached = record { metres = 0; reached = false }
+
 -- v's entry
+abbrev pub entryAt : Side → ℕ → Entry
+entryAt s v = getD (s .entries) v unreached
+
 abbrev pub reachedAt : Side → ℕ → Bool
-reachedAt s v = getD (s .reached) v false
+reachedAt s v = entryAt s v .reached
 
 abbrev pub metresAt : Side → ℕ → ℕ
-metresAt s v = getD (s .metres) v 0
+metresAt s v = entryAt s v .metres
 
 abbrev pub risksAt : Side → ℕ → ℕ
 risksAt s v = getD (s .risks) v 0

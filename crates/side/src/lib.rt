@@ -8,43 +8,83 @@ ghost use Rattle.problem.specs.Table.{arcsOf, allSound};
 ghost use Rattle.problem.specs.Routes.{arcAt};
 ghost use Rattle.problem.proofs.TableLaws.{SoundArc};
 ghost use Rattle.side.specs.Side.{SideTable};
-ghost use Rattle.side.specs.Relaxing.{Small, gainsBy, roundOf};
+ghost use Rattle.side.specs.Relaxing.{Fits, isNearer, nearerOf, relaxedIn, gainsBy, turnAfter, startOf};
 
-// One entry per node: the shortest length, whether the terminal can be reached at all, and the risks of one way of that length.
+// What the table says of a node: the shortest length, and whether the terminal can be reached at all.
+pub struct Entry {
+    pub metres: u32,
+    pub reached: bool,
+}
+
+// One entry per node, and the risks of one way of that length.
 pub struct Side {
-    pub metres: [u32; arcs::NODES],
-    pub reached: [bool; arcs::NODES],
+    pub entries: [Entry; arcs::NODES],
     pub risks: [u64; arcs::NODES],
 }
 
-// A table, and whether a round has changed it.
-struct Relaxed {
-    side: Side,
-    changed: bool,
+// Whether an arc of these metres brings its tail nearer, by the entries of its tail and its head.
+fn is_nearer(tail: Entry, head: Entry, metres: u32) -> bool
+    requires { ⌜ head .metres + metres < 2 ^ 32 ⌝ }
+    ensures { λ o. ⌜ o ≡ isNearer tail head metres ⌝ }
+{
+    if !head.reached {
+        return false;
+    }
+    if !tail.reached {
+        return true;
+    }
+    head.metres + metres < tail.metres
 }
 
-// Whether the arc is free and brings its tail nearer, by the entries of its head and its tail.
-fn gains(
-    a: Arc,
-    banned: u64,
-    head_reached: bool,
-    head_metres: u32,
-    tail_reached: bool,
-    tail_metres: u32,
-) -> bool
-    requires { ⌜ «head_metres» + a .metres < 2 ^ 32 ⌝ }
-    ensures { λ o. ⌜ o ≡ gainsBy banned a «head_reached» «head_metres» «tail_reached» «tail_metres» ⌝ }
+// The tail's entry once the arc is relaxed: over the arc and on as its head's entry says, where that is nearer.
+fn nearer(tail: Entry, head: Entry, metres: u32) -> Entry
+    requires { ⌜ head .metres + metres < 2 ^ 32 ⌝ }
+    ensures { λ o. ⌜ o ≡ nearerOf tail head metres ⌝ }
+{
+    if !is_nearer(tail, head, metres) {
+        return tail;
+    }
+    Entry {
+        metres: head.metres + metres,
+        reached: true,
+    }
+}
+
+// Relaxes an arc in a lent table: its tail's entry becomes what `nearer` says.
+fn relax(entries: &mut [Entry], tail: usize, head: usize, metres: u32)
+    requires { ⌜ Fits (now entries) tail head metres ⌝ }
+    ensures { λ _. ⌜ now (entries .exit) ≡ relaxedIn (now (entries .entry)) tail head metres ⌝ }
+{
+    let from = entries[tail];
+    let to = entries[head];
+    let new = nearer(from, to, metres);
+    entries[tail] = new;
+}
+
+// Lends a table to `relax`, so that its own callers hold theirs by value and need no walk.
+fn relax_in(
+    entries: [Entry; arcs::NODES],
+    tail: usize,
+    head: usize,
+    metres: u32,
+) -> [Entry; arcs::NODES]
+    requires { ⌜ Fits entries tail head metres ⌝ }
+    ensures { λ o. ⌜ o ≡ relaxedIn entries tail head metres ⌝ }
+{
+    let mut lent = entries;
+    relax(&mut lent, tail, head, metres);
+    lent
+}
+
+// Whether the arc is free and brings its tail nearer.
+fn gains(a: Arc, banned: u64, tail: Entry, head: Entry) -> bool
+    requires { ⌜ head .metres + a .metres < 2 ^ 32 ⌝ }
+    ensures { λ o. ⌜ o ≡ gainsBy banned a tail head ⌝ }
 {
     if a.risks & banned != 0 {
         return false;
     }
-    if !head_reached {
-        return false;
-    }
-    if !tail_reached {
-        return true;
-    }
-    head_metres + a.metres < tail_metres
+    is_nearer(tail, head, a.metres)
 }
 
 // Arc number k of a sound table.
@@ -55,62 +95,61 @@ fn sound_arc(table: &[u8], k: usize) -> Arc
     arcs::arc_at(table, k)
 }
 
-// Relaxes every arc of the table once, in order: where one gains, its tail's entry is made anew, over the arc and on as its head's entry says.
-fn round(table: &[u8], banned: u64, from: Side) -> Relaxed
-    requires { ⌜ allSound (arcsOf (now table)) ≡ true ⌝ }
-    requires { ⌜ Small from ⌝ }
-    ensures { λ o. ⌜ o ≡ roundOf banned (arcsOf (now (table .entry))) from ⌝ }
+// The number of the arc whose turn comes after k's, round and round.
+fn turn_after(k: usize, n: usize) -> usize
+    requires { ⌜ k < n ⌝ }
+    ensures { λ r. ⌜ r ≡ turnAfter k n ⌝ }
 {
-    let n = table.len() / 16;
-    let mut s = from;
-    let mut changed = false;
-    let mut k: usize = 0;
-    while k < n {
-        let a = sound_arc(table, k);
-        k = k + 1;
-        let tail = a.tail as usize;
-        let head = a.head as usize;
-        let metres = s.metres[head];
-        if gains(
-            a,
-            banned,
-            s.reached[head],
-            metres,
-            s.reached[tail],
-            s.metres[tail],
-        ) {
-            let risks = s.risks[head];
-            s.metres[tail] = metres + a.metres;
-            s.reached[tail] = true;
-            s.risks[tail] = a.risks | risks;
-            changed = true;
-        }
+    if k + 1 == n {
+        return 0;
     }
-    Relaxed {
-        side: s,
-        changed: changed,
-    }
+    k + 1
 }
 
-// The side table, by rounds until one changes nothing.
+// The entries before any arc is relaxed: only the terminal is reached.
+fn start(terminal: usize) -> [Entry; arcs::NODES]
+    requires { ⌜ terminal < 32 ⌝ }
+    ensures { λ r. ⌜ r ≡ startOf terminal ⌝ }
+{
+    let unreached = Entry {
+        metres: 0,
+        reached: false,
+    };
+    let mut entries = [unreached; arcs::NODES];
+    entries[terminal] = Entry {
+        metres: 0,
+        reached: true,
+    };
+    entries
+}
+
+// The side table. The arcs take turns until all have gained nothing since an entry last changed; `left` counts those that are still to be asked.
+// Lending copies the entries there and back, so they are lent only for an arc that gains.
 pub fn side_table(table: &[u8], terminal: u8, banned: u64) -> Side
     requires { ⌜ terminal < 32 ⌝ }
     requires { ⌜ allSound (arcsOf (now table)) ≡ true ⌝ }
     ensures { λ s. ⌜ SideTable (arcsOf (now (table .entry))) terminal banned s ⌝ }
 {
-    let at = terminal as usize;
-    let mut reached = [false; arcs::NODES];
-    reached[at] = true;
-    let mut s = Side {
-        metres: [0; arcs::NODES],
-        reached: reached,
-        risks: [0; arcs::NODES],
-    };
-    let mut again = true;
-    while again {
-        let r = round(table, banned, s);
-        s = r.side;
-        again = r.changed;
+    let n = table.len() / 16;
+    let mut entries = start(terminal as usize);
+    let mut risks = [0; arcs::NODES];
+    let mut k: usize = 0;
+    let mut left = n;
+    while left > 0 {
+        let a = sound_arc(table, k);
+        k = turn_after(k, n);
+        left = left - 1;
+        let tail = a.tail as usize;
+        let head = a.head as usize;
+        if gains(a, banned, entries[tail], entries[head]) {
+            entries = relax_in(entries, tail, head, a.metres);
+            let on = risks[head];
+            risks[tail] = a.risks | on;
+            left = n;
+        }
     }
-    s
+    Side {
+        entries: entries,
+        risks: risks,
+    }
 }

@@ -12,36 +12,33 @@ use Rattle.entry.proofs.plan_checked.Tie as tie
 side-table-requires : tie.Need-side-table-requires
 side-table-requires c κs = search needs
 
-element-copy-out-if1 : tie.Need-element-copy-out-if1
-element-copy-out-if1 c = search needs
+mul-entry : tie.Need-mul-entry
+mul-entry c = search needs
+
+element-copy-out-entry : tie.Need-element-copy-out-entry
+element-copy-out-entry c = search needs
 
 nothing-requires : tie.Need-nothing-requires
 nothing-requires c κs = search needs
 
 returns : tie.Need-returns
 returns c =
-    let d = c .before .before .before in
+    let d = c .before .before .before .before in
     let a = d .before .before .args in
     none-planned (c .nothing .ensures) (no-routes (arcsOf (a .table .now)) (a .source) (a .terminal) (a .reach) (d .side-table .result) (d .side-table .ensures) (inl (not-true _ (c .before .if1 .taken))))
-
-mul-if2 : tie.Need-mul-if2
-mul-if2 c = search needs
-
-element-copy-out-if2 : tie.Need-element-copy-out-if2
-element-copy-out-if2 c = search needs
 
 nothing-requires-2 : tie.Need-nothing-requires-2
 nothing-requires-2 c κs = search needs
 
 returns-2 : tie.Need-returns-2
 returns-2 c =
-    let d = c .before .before .before .before .before in
+    let d = c .before .before .before .before .before .before in
     let a = d .before .before .args in
     none-planned (c .nothing2 .ensures) (no-routes (arcsOf (a .table .now)) (a .source) (a .terminal) (a .reach) (d .side-table .result) (d .side-table .ensures) (inr (c .before .if2 .taken)))
 
 make-requires : tie.Need-make-requires
 make-requires c κs =
-    let d = c .before .before .before .before in
+    let d = c .before .before .before .before .before in
     let s = d .before .before in
     let a = s .args in
     (s .pre, (d .side-table .ensures, some-routes (arcsOf (a .table .now)) (a .source) (a .terminal) (a .reach) (d .side-table .result) (d .side-table .ensures) (s .pre .1) (omega (arith, s .pre .2)) (not-false _ (c .before .before .if1 .left)) (c .if2 .left)))
@@ -54,11 +51,10 @@ plan-checked-spec =
     tie.close
     (tie.spec
     side-table-requires
-    element-copy-out-if1
+    mul-entry
+    element-copy-out-entry
     nothing-requires
     returns
-    mul-if2
-    element-copy-out-if2
     nothing-requires-2
     returns-2
     make-requires

@@ -19,9 +19,8 @@ narrow-spec =
     tie.close
     (tie.spec
     (λ c. omega arith)
+    (λ c. omega arith)
     unreached
-    (λ c. omega arith)
-    (λ c. omega arith)
     far
     (λ c. omega arith)
     (λ c. omega arith)

@@ -23,13 +23,13 @@ first-requires : tie.Need-first-requires Inv-loop μ-loop
 first-requires c κs = (omega arith, omega arith)
 
 spread-requires : tie.Need-spread-requires Inv-loop μ-loop
-spread-requires c κs = (omega arith, λ j h. omega (arith, c .before .before .before .before .before .before .before .loop .inv .1 .size))
+spread-requires c κs = (omega arith, λ j h. omega (arith, c .before .before .before .before .before .before .loop .inv .1 .size))
 
 loop-again : tie.Need-loop-again Inv-loop μ-loop
 loop-again c =
     let put = c .before .before in
     let lower = put .before .before .before in
-    let first = lower .before .before .before in
+    let first = lower .before .before in
     (omega arith, columns-more (omega arith) refl (ap₂ nodeWords (first .first .ensures) (lower .lower-of .ensures)) (first .before .before .loop .inv .1) (put .spread .ensures))
 
 same-length : tie.Need-same-length Inv-loop μ-loop
@@ -50,7 +50,6 @@ lay-nodes-spec =
     loop-holds
     (λ c. omega arith)
     first-requires
-    (λ c. omega arith)
     (λ c. omega arith)
     (λ c. omega arith)
     (λ c κs. search needs)
