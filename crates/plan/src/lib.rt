@@ -98,11 +98,22 @@ fn cap_for(ranked: u64, allowance: u64, width: u64) -> u64
     smaller(allowance, 8 * ranked + 64)
 }
 
-fn wider(width: u64) -> u64
+// How wide the next window is to be, once one has taken the routes ranked from `before` to `ranked`. Each window walks again over what is
+// shorter, so it should hold several times as many routes: where their number grows slowly, it is to be much wider.
+fn wider(width: u64, before: u64, ranked: u64) -> u64
     ensures { λ r. ⌜ r ≤ mostReach ⌝ }
 {
-    if WIDEST / 2 <= width {
+    if WIDEST / 8 <= width {
         return WIDEST;
+    }
+    if ranked < 16 {
+        return 2 * width + 1;
+    }
+    if ranked / 2 < before {
+        return 8 * width + 1;
+    }
+    if ranked / 4 < before {
+        return 3 * width + 1;
     }
     2 * width + 1
 }
@@ -155,7 +166,7 @@ fn try_window(net: &[u64], allowance: u64, floor: u64, t: Tally, cur: u64, width
         return Turn {
             tally: u,
             cur: r.cut,
-            width: wider(width),
+            width: wider(width, t.ranked, u.ranked),
             end: end,
         };
     }
