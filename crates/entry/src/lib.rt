@@ -49,7 +49,9 @@ fn make(table: &[u8], source: u8, terminal: u8, reach: u32, allowance: u32, side
 {
     let common = floor::common_risks(table, source, terminal, reach, side);
     let low = sets::shared_count(common, common);
-    let net = layout::lay_out(table, source, terminal, reach, side);
+    // The first fill is never read; a value whose bytes differ makes it a few vector stores in a loop, where 0 would be a call of memset.
+    let mut net = [layout::FAR; layout::WORDS];
+    layout::lay_out(&mut net, table, source, terminal, reach, side);
     let run = plan::plan(&net, allowance as u64, low as u64);
     let choice = choose::choose(&net, allowance as u64, run);
     Made {

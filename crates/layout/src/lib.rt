@@ -23,7 +23,7 @@ const NODES_FROM: usize = 640;
 const REQUEST_FROM: usize = 704;
 
 // The lower bound of a node from which no way leads on: past every reach.
-const FAR: u64 = 4000000000;
+pub const FAR: u64 = 4000000000;
 
 // Writes values from `at` on, `step` words apart.
 fn spread(net: &mut [u64], at: usize, step: usize, values: &[u64])
@@ -81,19 +81,18 @@ fn lay_nodes(net: &mut [u64], chain: &[u8], side: Side)
     }
 }
 
-// The table and the request as words. `side` is the side table with no risk banned.
-pub fn lay_out(table: &[u8], source: u8, terminal: u8, reach: u32, side: Side) -> [u64; WORDS]
+// Writes the table and the request as words, over whatever stands there. `side` is the side table with no risk banned.
+pub fn lay_out(net: &mut [u64], table: &[u8], source: u8, terminal: u8, reach: u32, side: Side)
     requires { ⌜ (length (now table) ≤ mostTableBytes) × (allSound (arcsOf (now table)) ≡ true) ⌝ }
     requires { ⌜ (source ≤ lastNode) × (terminal ≤ lastNode) × (source ≡ terminal → ⊥) × (reach ≤ mostReach) ⌝ }
     requires { ⌜ SideTable (arcsOf (now table)) terminal 0 side ⌝ }
-    ensures { λ r. ⌜ LaidOut (arcsOf (now (table .entry))) source terminal reach side r ⌝ }
+    requires { ⌜ length (now net) ≡ netSize ⌝ }
+    ensures { λ _. ⌜ LaidOut (arcsOf (now (table .entry))) source terminal reach side (now (net .exit)) ⌝ }
 {
     let chain = chain::chained(table);
     let count = table.len() / 16;
-    let mut net = [0; WORDS];
-    lay_arcs(&mut net, table, &chain);
-    lay_nodes(&mut net, &chain, side);
+    lay_arcs(net, table, &chain);
+    lay_nodes(net, &chain, side);
     let request = [count as u64, terminal as u64, reach as u64, source as u64];
-    spread(&mut net, REQUEST_FROM, 1, &request);
-    net
+    spread(net, REQUEST_FROM, 1, &request);
 }

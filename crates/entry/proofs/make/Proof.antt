@@ -11,6 +11,9 @@ common-risks-requires c κs = search needs
 shared-count-requires : tie.Need-shared-count-requires
 shared-count-requires c κs = search needs
 
+slice-aggregate-lay-out : tie.Need-slice-aggregate-lay-out
+slice-aggregate-lay-out c = search needs
+
 lay-out-requires : tie.Need-lay-out-requires
 lay-out-requires c κs = search needs
 
@@ -22,8 +25,8 @@ cast-plan c = search needs
 
 plan-requires : tie.Need-plan-requires
 plan-requires c κs =
-    let l = c .before in
-    let n = l .before in
+    let l = c .before .before in
+    let n = l .before .before in
     let k = n .before in
     let s = k .before .before in (
       l .lay-out .ensures .words,
@@ -36,13 +39,13 @@ slice-aggregate-choose c = search needs
 choose-requires : tie.Need-choose-requires
 choose-requires c κs = search needs
 
-cast-t19 : tie.Need-cast-t19
-cast-t19 c = search needs
+cast-t21 : tie.Need-cast-t21
+cast-t21 c = search needs
 
 returns : tie.Need-returns
 returns c =
-    let l = c .before .before .before .before in
-    let n = l .before in
+    let l = c .before .before .before .before .before in
+    let n = l .before .before in
     let k = n .before in
     let s = k .before .before in
     made-planned (l .lay-out .ensures) (s .args .allowance) (n .shared-count .result)
@@ -55,11 +58,12 @@ make-spec =
     (tie.spec
     common-risks-requires
     shared-count-requires
+    slice-aggregate-lay-out
     lay-out-requires
     slice-aggregate-plan
     cast-plan
     plan-requires
     slice-aggregate-choose
     choose-requires
-    cast-t19
+    cast-t21
     returns)

@@ -1,6 +1,5 @@
 -- `layout::lay_out` meets its contract: the arcs, the nodes and the request are written one after the other (`laid-out`). Assumes nothing.
 use Prim.Native.Nat.{_≤_}
-use mathlib.Core.Path.{refl}
 use native.Mathlib.Omega.{arith}
 use borrow.Author.Needs.{needs}
 use lib.ListN.{length}
@@ -15,18 +14,18 @@ few s = omega (arith, arcs-length (s .args .table .now), s .pre .0 .0)
 
 chained-requires : tie.Need-chained-requires
 chained-requires c κs =
-    let s = c .before in
+    let s = c .before .before in
     record { few = few s; tails = λ k h. sound-at (arcsOf (s .args .table .now)) (s .pre .0 .1) k h .tail-node }
 
 returns : tie.Need-returns
 returns c =
-    let request = c .before in
-    let nodes = request .before .before .before .before in
-    let arcs = nodes .before .before .before .before in
+    let request = c .before .before in
+    let nodes = request .before .before .before .before .before in
+    let arcs = nodes .before .before .before .before .before in
     let chained = arcs .before .before .before in
-    let s = chained .before .before in
+    let s = chained .before .before .before in
     let ends = s .pre .1 .0 in
-    laid-out (few s) (s .pre .0 .1) (ends .0) (ends .1) (ends .2) (ends .3) (s .pre .1 .1) (chained .chained .ensures) refl (arcs .lay-arcs .ensures) (nodes .lay-nodes .ensures)
+    laid-out (few s) (s .pre .0 .1) (ends .0) (ends .1) (ends .2) (ends .3) (s .pre .1 .1 .0) (chained .chained .ensures) (s .pre .1 .1 .1) (arcs .lay-arcs .ensures) (nodes .lay-nodes .ensures)
     (rw (arcs-length (s .args .table .now)) (request .spread .ensures))
 
 pub lay-out-spec : {M : Type 1} → statement M
@@ -35,12 +34,10 @@ lay-out-spec =
     (tie.spec
     chained-requires
     (search needs)
+    (λ c κs. search needs)
     (search needs)
     (λ c κs. search needs)
     (search needs)
-    (search needs)
     (λ c κs. search needs)
     (search needs)
-    (search needs)
-    (λ c κs. search needs)
     returns)
