@@ -22,10 +22,11 @@ use Rattle.net.proofs.NetLaws.{left-next}
 use Rattle.track.specs.declared.Track.{Track}
 use Rattle.track.specs.Track.{routeIn, Fit, Holds, onward}
 use Rattle.track.proofs.FitLaws.{fit-count}
-use Rattle.trace.specs.declared.Hop.{Hop}
+use Rattle.sweep.specs.declared.Leg.{Leg}
+use Rattle.sweep.specs.Sweep.{Seen}
 use Rattle.trace.specs.declared.Want.{Want}
 use Rattle.trace.specs.declared.Found.{Found}
-use Rattle.trace.specs.Trace.{wantedIn, Sought, soughtIn, along, meet, seek, Looked, Ready}
+use Rattle.trace.specs.Trace.{wantedIn, Sought, soughtIn, along, meet, seek, Ready}
 
 -- ---- one more route
 
@@ -198,37 +199,37 @@ module _ (net : List ℕ) (w : Want) (at met : ℕ) (t : Track) where
       turn : (g : Found) → Fit (g .track) → rest i f ≡ rest next g → Rest s g next
       turn g fit e = record { inside = next-arc .to; here = next-arc .here; fit = fit; left = sym e ∙ r .left }
 
-      module _ {h : Hop} (k : Looked terminal (w .metres) (wordAt net (lowerFrom + arcAt arcs i .head)) met (t .metres) (arcAt arcs i) h) where
-        pub rest-past : (h .kind ≡ 1 → ⊥) → (h .kind ≡ 2 → ⊥) → Rest s f next
+      module _ {h : Leg} (k : Seen terminal (w .metres) (wordAt net (lowerFrom + arcAt arcs i .head)) met (t .metres) 0 (arcAt arcs i) h) where
+        pub rest-past : (h .kind ≡ 2 → ⊥) → (h .kind ≡ 3 → ⊥) → Rest s f next
         unfolding routeIn
         rest-past one two = turn f (r .fit) (go k)
           where
-            go : Looked terminal (w .metres) (wordAt net (lowerFrom + arcAt arcs i .head)) met (t .metres) (arcAt arcs i) h → rest i f ≡ rest next f
-            go (Looked.met-before e m) = left-met arcs terminal (w .metres) test met at (routeIn t) i next (soughtIn f) l next-arc m
-            go (Looked.too-far e far) =
+            go : Seen terminal (w .metres) (wordAt net (lowerFrom + arcAt arcs i .head)) met (t .metres) 0 (arcAt arcs i) h → rest i f ≡ rest next f
+            go (Seen.met-before e m) = left-met arcs terminal (w .metres) test met at (routeIn t) i next (soughtIn f) l next-arc m
+            go (Seen.cut-off e far _) =
                 left-far arcs terminal (w .metres) test met at (routeIn t) i next (soughtIn f) l next-arc _ (λ ks x. ready .words .lower (arcAt arcs i .head) head-node x) far
-            go (Looked.ends e n b to) = absurd (one e)
-            go (Looked.leads e n b on hd mt) = absurd (two e)
+            go (Seen.ends e n to b _ _) = absurd (one e)
+            go (Seen.leads e n on b hd mt _ _) = absurd (two e)
 
         -- what taking the arc needs, and what it gives
         pub record Ends : Type 0 where
           pub room : t .count < mostArcs
           pub gives : (u : Track) → Holds u (onward (routeIn t) i (arcAt arcs i)) → (g : Found) → Fit (g .track) → soughtIn g ≡ meet (w .metres) test (soughtIn f) (routeIn u) → Rest s g next
 
-        pub rest-ends : h .kind ≡ 1 → Ends
+        pub rest-ends : h .kind ≡ 2 → Ends
         rest-ends one = go k
           where
-            go : Looked terminal (w .metres) (wordAt net (lowerFrom + arcAt arcs i .head)) met (t .metres) (arcAt arcs i) h → Ends
-            go (Looked.met-before e m) = absurd (omega arith)
-            go (Looked.too-far e far) = absurd (omega arith)
-            go (Looked.ends e n b to) =
+            go : Seen terminal (w .metres) (wordAt net (lowerFrom + arcAt arcs i .head)) met (t .metres) 0 (arcAt arcs i) h → Ends
+            go (Seen.met-before e m) = absurd (omega arith)
+            go (Seen.cut-off e far _) = absurd (omega arith)
+            go (Seen.ends e n to b _ _) =
                 record {
                   room = omega (arith, ready .room, unmet-with 32 (arcAt arcs i .head) met (omega (arith, head-node)) n);
                   gives = λ u held g fit q.
                       turn g fit (left-ends arcs terminal (w .metres) test met at (routeIn t) i next (soughtIn f) l next-arc n (r .here l) to
                       ∙ ap (λ (x : Sought). Left arcs terminal (w .metres) test met at (routeIn t) next x) (sym (q ∙ ap (meet (w .metres) test (soughtIn f)) (held .route))));
                 }
-            go (Looked.leads e n b on hd mt) = absurd (omega arith)
+            go (Seen.leads e n on b hd mt _ _) = absurd (omega arith)
 
         pub record Leads : Type 0 where
           pub room : t .count < mostArcs
@@ -237,14 +238,14 @@ module _ (net : List ℕ) (w : Want) (at met : ℕ) (t : Track) where
           pub gives : (u : Track) → Holds u (onward (routeIn t) i (arcAt arcs i)) → (g : Found) → Fit (g .track)
               → soughtIn g ≡ foldl (seek arcs (w .metres) test (routeIn u)) (soughtIn f) (grow arcs terminal (suc (unmet 32 (h .met))) (h .met) (h .head)) → Rest s g next
 
-        pub rest-leads : h .kind ≡ 2 → Leads
+        pub rest-leads : h .kind ≡ 3 → Leads
         rest-leads two = go k
           where
-            go : Looked terminal (w .metres) (wordAt net (lowerFrom + arcAt arcs i .head)) met (t .metres) (arcAt arcs i) h → Leads
-            go (Looked.met-before e m) = absurd (omega arith)
-            go (Looked.too-far e far) = absurd (omega arith)
-            go (Looked.ends e n b to) = absurd (omega arith)
-            go (Looked.leads e n b on hd mt) =
+            go : Seen terminal (w .metres) (wordAt net (lowerFrom + arcAt arcs i .head)) met (t .metres) 0 (arcAt arcs i) h → Leads
+            go (Seen.met-before e m) = absurd (omega arith)
+            go (Seen.cut-off e far _) = absurd (omega arith)
+            go (Seen.ends e n to b _ _) = absurd (omega arith)
+            go (Seen.leads e n on b hd mt _ _) =
                 let fewer : unmet 32 met ≡ suc (unmet 32 (h .met)) = unmet-with 32 (arcAt arcs i .head) met (omega (arith, head-node)) n ∙ ap (λ (x : ℕ). suc (unmet 32 x)) (sym mt) in
                 record {
                   room = omega (arith, ready .room);

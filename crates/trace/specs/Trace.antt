@@ -8,7 +8,7 @@ use lib.Count.{onesIn}
 use lib.Dec.{eqb}
 use lib.ListN.{length}
 use Rattle.laws.specs.Choosing.{if_then_else_, keep}
-use Rattle.laws.specs.Sets.{bit, with, unmet}
+use Rattle.laws.specs.Sets.{with, unmet}
 use Rattle.problem.specs.declared.Arc.{Arc}
 use Rattle.problem.specs.Table.{lastNode, mostArcs, mostReach, mostAllowance}
 use Rattle.problem.specs.Routes.{arcAt, metresOf, risksOf, grow, Route, routeOf}
@@ -18,7 +18,6 @@ use Rattle.net.specs.Net.{terminalAt, reachAt, sourceAt, wordAt, arcsIn, Net}
 use Rattle.standby.specs.Standby.{offer}
 use Rattle.track.specs.declared.Track.{Track}
 use Rattle.track.specs.Track.{routeIn, Fit, onward}
-use Rattle.trace.specs.declared.Hop.{Hop}
 use Rattle.trace.specs.declared.Want.{Want}
 use Rattle.trace.specs.declared.Found.{Found}
 
@@ -105,17 +104,6 @@ unfoldable pub seek : List Arc → ℕ → (ℕ → Bool) → Route → Sought �
 seek arcs metres test behind s ks = meet metres test s (along arcs behind ks)
 
 -- ---- the code's search
-
--- what arc a, which leads on by at least `lower` metres, is to a search for `most` metres that has `metres` behind it and has met `met`
-pub data Looked (terminal most lower met metres : ℕ) (a : Arc) (h : Hop) : Type 0 where
-  -- passed over: its head was met before; every route over it is too long
-  met-before : h .kind ≡ 0 → bit met (a .head) ≡ 1 → Looked terminal most lower met metres a h
-  too-far : h .kind ≡ 0 → most < metres + a .metres + lower → Looked terminal most lower met metres a h
-  -- a route ends with it
-  ends : h .kind ≡ 1 → bit met (a .head) ≡ 0 → metres + a .metres + lower ≤ most → a .head ≡ terminal → Looked terminal most lower met metres a h
-  -- routes may go on from its head
-  leads : h .kind ≡ 2 → bit met (a .head) ≡ 0 → metres + a .metres + lower ≤ most → (a .head ≡ terminal → ⊥) → h .head ≡ a .head → h .met ≡ with met (a .head)
-      → Looked terminal most lower met metres a h
 
 -- what a search may count on at a node, with the track t behind it
 pub record Ready (net : List ℕ) (w : Want) (at met : ℕ) (t : Track) : Type 0 where

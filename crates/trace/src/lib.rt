@@ -9,7 +9,7 @@ ghost use Rattle.problem.specs.Table.{mostArcs, mostReach, mostAllowance};
 ghost use Rattle.problem.specs.Routes.{arcAt, grow};
 ghost use Rattle.net.specs.Net.{Net, arcsIn, wordAt, nextFrom, lowerFrom, terminalAt};
 ghost use Rattle.track.specs.Track.{routeIn, Fit, Holds, onward};
-ghost use Rattle.trace.specs.Trace.{allIn, wantedIn, InRange, soughtIn, meet, seek, Outcome, Looked, Ready};
+ghost use Rattle.trace.specs.Trace.{allIn, wantedIn, InRange, soughtIn, meet, seek, Outcome, Ready};
 use problem::Arc;
 use track::Track;
 
@@ -29,15 +29,6 @@ pub struct Found {
     pub found: bool,
     pub passed: u64,
     pub track: Track,
-}
-
-// An arc looked at: 0 passed over, 1 a route ends with it, 2 routes may go on from its head. Then the arc that comes next, the head,
-// and the nodes met there.
-pub struct Hop {
-    pub kind: u8,
-    pub next: u64,
-    pub head: u64,
-    pub met: u64,
 }
 
 // Whether a route of the wanted length that has these risks is the wanted one.
@@ -103,48 +94,6 @@ fn over(net: &[u64], i: u64, t: Track) -> Track
     track::extend(t, i as u8, a)
 }
 
-// An arc passed over, and the one that comes next.
-fn no_hop(next: u64) -> Hop
-    ensures { λ r. ⌜ (r .kind ≡ 0) × (r .next ≡ next) ⌝ }
-{
-    Hop {
-        kind: 0,
-        next: next,
-        head: 0,
-        met: 0,
-    }
-}
-
-// What arc i is to a search for so many metres.
-fn look(net: &[u64], most: u64, i: u64, met: u64, t: Track) -> Hop
-    requires { ⌜ Net (now net) × (i < length (arcsIn (now net))) ⌝ }
-    ensures next { λ r. ⌜ r .next ≡ wordAt (now (net .entry)) (nextFrom + i) ⌝ }
-    ensures looked { λ r. ⌜ Looked (wordAt (now (net .entry)) terminalAt) most (wordAt (now (net .entry)) (lowerFrom + arcAt (arcsIn (now (net .entry))) i .head)) met (t .metres) (arcAt (arcsIn (now (net .entry))) i) r ⌝ }
-{
-    let next = net::next(net, i);
-    let head = net::head(net, i);
-    if sets::has(met, head as u8) {
-        return no_hop(next);
-    }
-    if most < t.metres as u64 + net::metres(net, i) + net::lower(net, head) {
-        return no_hop(next);
-    }
-    if head == net::terminal(net) {
-        return Hop {
-            kind: 1,
-            next: next,
-            head: head,
-            met: met,
-        };
-    }
-    Hop {
-        kind: 2,
-        next: next,
-        head: head,
-        met: sets::with(met, head as u8),
-    }
-}
-
 // The search over all that goes on from `at`, with the track t behind it; it stops at the first route that is wanted.
 pub fn trace(net: &[u64], want: Want, at: u64, met: u64, t: Track, s: Found) -> Found
     requires { ⌜ Ready (now net) want at met t × Fit (s .track) ⌝ }
@@ -159,12 +108,12 @@ pub fn trace(net: &[u64], want: Want, at: u64, met: u64, t: Track, s: Found) -> 
             return f;
         }
         let k = i;
-        let h = look(net, want.metres, k, met, t);
-        i = h.next;
-        if h.kind == 1 {
+        let l = sweep::look(net, k, met, t.metres as u64, 0, want.metres);
+        i = l.next;
+        if l.kind == 2 {
             f = meet(net, want, over(net, k, t), f);
-        } else if h.kind == 2 {
-            f = trace(net, want, h.head, h.met, over(net, k, t), f);
+        } else if l.kind == 3 {
+            f = trace(net, want, l.head, l.met, over(net, k, t), f);
         }
     }
     f

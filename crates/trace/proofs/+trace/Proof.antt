@@ -8,6 +8,7 @@ use Rattle.laws.specs.Sets.{unmet}
 use Rattle.net.specs.Net.{arcsIn}
 use Rattle.trace.proofs.TraceLaws.{Rest, rest-start, rest-end, rest-found, next-past, rest-past, Ends, rest-ends, Leads, rest-leads}
 use Prim.Native.Nat.{ℕ, _-_, _<_}
+use borrow.Author.Needs.{needs}
 use borrow.Fn.Kinds.{In}
 use borrow.Fn.PlainCycle.{Measures, is, falls, and}
 use Rattle.trace.proofs.trace.Reads as trace
@@ -15,7 +16,7 @@ use Rattle.trace.proofs.trace.Kinds as trace-kinds
 use Rattle.trace.proofs.+trace.Lts-trace as trace-lts
 use Rattle.net.proofs.arc_count.Reads as arc-count-reads
 use Rattle.net.proofs.first.Reads as first-reads
-use Rattle.trace.proofs.look.Reads as look-reads
+use Rattle.sweep.proofs.look.Reads as look-reads
 use Rattle.trace.proofs.meet.Reads as meet-reads
 use Rattle.trace.proofs.over.Reads as over-reads
 use Rattle.trace.proofs.+trace.{statement}
@@ -57,23 +58,23 @@ abbrev Looking : ℕ → Type 0
 Looking t = trace-lts.After-look (called t) (trace-at t) trace.Post trace-Inv-loop trace-μ-loop
 
 abbrev start : (t : ℕ) → Looking t → trace-lts.Start (called t) (trace-at t) trace.Post trace-Inv-loop trace-μ-loop
-start t k = k .before .before .before .before .before .before .before
+start t k = k .before .before .before .before .before .before .before .before
 
-inside : (t : ℕ) (k : Looking t) → k .before .before .before .loop .i < length (arcsIn (start t k .args .net .now))
-inside t k = omega (arith, k .before .before .before .loop .inv .0)
+inside : (t : ℕ) (k : Looking t) → k .before .before .before .before .loop .i < length (arcsIn (start t k .args .net .now))
+inside t k = omega (arith, k .before .before .before .before .loop .inv .0)
 
-ends : (t : ℕ) (k : Looking t) → k .look .result .kind ≡ 1
-    → (let a = start t k .args in Ends (a .net .now) (a .want) (a .at) (a .met) (a .t) (start t k .pre .1 .0) (k .before .before .before .loop .inv .1) (inside t k) (k .look .ensures .1))
-ends t k = let a = start t k .args in rest-ends (a .net .now) (a .want) (a .at) (a .met) (a .t) (start t k .pre .1 .0) (k .before .before .before .loop .inv .1) (inside t k) (k .look .ensures .1)
+ends : (t : ℕ) (k : Looking t) → k .look .result .kind ≡ 2
+    → (let a = start t k .args in Ends (a .net .now) (a .want) (a .at) (a .met) (a .t) (start t k .pre .1 .0) (k .before .before .before .before .loop .inv .1) (inside t k) (k .look .ensures .1))
+ends t k = let a = start t k .args in rest-ends (a .net .now) (a .want) (a .at) (a .met) (a .t) (start t k .pre .1 .0) (k .before .before .before .before .loop .inv .1) (inside t k) (k .look .ensures .1)
 
-leads : (t : ℕ) (k : Looking t) → k .look .result .kind ≡ 2
-    → (let a = start t k .args in Leads (a .net .now) (a .want) (a .at) (a .met) (a .t) (start t k .pre .1 .0) (k .before .before .before .loop .inv .1) (inside t k) (k .look .ensures .1))
-leads t k = let a = start t k .args in rest-leads (a .net .now) (a .want) (a .at) (a .met) (a .t) (start t k .pre .1 .0) (k .before .before .before .loop .inv .1) (inside t k) (k .look .ensures .1)
+leads : (t : ℕ) (k : Looking t) → k .look .result .kind ≡ 3
+    → (let a = start t k .args in Leads (a .net .now) (a .want) (a .at) (a .met) (a .t) (start t k .pre .1 .0) (k .before .before .before .before .loop .inv .1) (inside t k) (k .look .ensures .1))
+leads t k = let a = start t k .args in rest-leads (a .net .now) (a .want) (a .at) (a .met) (a .t) (start t k .pre .1 .0) (k .before .before .before .before .loop .inv .1) (inside t k) (k .look .ensures .1)
 
-nearer : (t : ℕ) (k : Looking t) → (let n = k .before .before .before .before .before .arc-count .result in n - k .look .result .next < n - k .before .before .before .loop .i)
+nearer : (t : ℕ) (k : Looking t) → (let n = k .before .before .before .before .before .before .arc-count .result in n - k .look .result .next < n - k .before .before .before .before .loop .i)
 nearer t k =
     let a = start t k .args in
-    let l = k .before .before .before .loop in
+    let l = k .before .before .before .before .loop in
     omega (arith, l .inv .0, inside t k, k .look .ensures .0, next-past (a .net .now) (a .want) (a .at) (a .met) (a .t) (start t k .pre .1 .0) (l .inv .1) (inside t k))
 
 trace-arc-count-requires : (t : ℕ) → trace-lts.Need-arc-count-requires (called t) (trace-at t) trace.Post trace-Inv-loop trace-μ-loop
@@ -96,7 +97,9 @@ trace-returns t c =
     (l .inv .1 .fit, rest-found (a .net .now) (a .want) (a .at) (a .met) (a .t) (s .pre .1 .0) (l .inv .1) (c .if1 .taken))
 
 trace-look-requires : (t : ℕ) → trace-lts.Need-look-requires (called t) (trace-at t) trace.Post trace-Inv-loop trace-μ-loop
-trace-look-requires t c κs = (c .before .before .before .before .before .before .pre .1 .0 .words, omega (arith, c .before .before .loop .inv .0))
+trace-look-requires t c κs =
+    let r = c .before .before .before .before .before .before .before .pre .1 .0 in
+    (r .words, omega (arith, c .before .before .before .loop .inv .0), omega (arith, r .not-past, r .range .metres-range))
 
 trace-over-requires : (t : ℕ) → trace-lts.Need-over-requires (called t) (trace-at t) trace.Post trace-Inv-loop trace-μ-loop
 trace-over-requires t c κs =
@@ -108,7 +111,7 @@ trace-meet-requires : (t : ℕ) → trace-lts.Need-meet-requires (called t) (tra
 trace-meet-requires t c κs =
     let k = c .before .before .before in
     let r = start t k .pre .1 .0 in
-    (r .words, r .range, c .over .ensures .fit, k .before .before .before .loop .inv .1 .fit, k .before .if1 .left)
+    (r .words, r .range, c .over .ensures .fit, k .before .before .before .before .loop .inv .1 .fit, k .before .before .if1 .left)
 
 trace-loop-less : (t : ℕ) → trace-lts.Need-loop-less (called t) (trace-at t) trace.Post trace-Inv-loop trace-μ-loop
 trace-loop-less t c = nearer t (c .before .before .before .before)
@@ -116,7 +119,7 @@ trace-loop-less t c = nearer t (c .before .before .before .before)
 trace-loop-again : (t : ℕ) → trace-lts.Need-loop-again (called t) (trace-at t) trace.Post trace-Inv-loop trace-μ-loop
 trace-loop-again t c =
     let k = c .before .before .before .before in
-    (k .before .before .before .loop .inv .0, rw (k .look .ensures .0) (ends t k (c .before .before .if2 .taken) .gives (c .before .over .result) (c .before .over .ensures) (c .meet .result) (c .meet .ensures .0) (c .meet .ensures .1)))
+    (k .before .before .before .before .loop .inv .0, rw (k .look .ensures .0) (ends t k (c .before .before .if2 .taken) .gives (c .before .over .result) (c .before .over .ensures) (c .meet .result) (c .meet .ensures .0) (c .meet .ensures .1)))
 
 trace-over-requires-2 : (t : ℕ) → trace-lts.Need-over-requires-2 (called t) (trace-at t) trace.Post trace-Inv-loop trace-μ-loop
 trace-over-requires-2 t c κs =
@@ -128,7 +131,7 @@ trace-trace-requires : (t : ℕ) → trace-lts.Need-trace-requires (called t) (t
 trace-trace-requires t c κs =
     let k = c .before .before .before .before .before in
     let o = leads t k (c .before .if3 .taken) in
-    (omega (arith, start t k .pre .0, o .fewer), (o .goes (c .over2 .result) (c .over2 .ensures), k .before .before .before .loop .inv .1 .fit))
+    (omega (arith, start t k .pre .0, o .fewer), (o .goes (c .over2 .result) (c .over2 .ensures), k .before .before .before .before .loop .inv .1 .fit))
 
 trace-loop-less-2 : (t : ℕ) → trace-lts.Need-loop-less-2 (called t) (trace-at t) trace.Post trace-Inv-loop trace-μ-loop
 trace-loop-less-2 t c = nearer t (c .before .before .before .before .before .before)
@@ -136,7 +139,7 @@ trace-loop-less-2 t c = nearer t (c .before .before .before .before .before .bef
 trace-loop-again-2 : (t : ℕ) → trace-lts.Need-loop-again-2 (called t) (trace-at t) trace.Post trace-Inv-loop trace-μ-loop
 trace-loop-again-2 t c =
     let k = c .before .before .before .before .before .before in
-    (k .before .before .before .loop .inv .0, rw (k .look .ensures .0) (leads t k (c .before .before .if3 .taken) .gives (c .before .over2 .result) (c .before .over2 .ensures) (c .trace .result) (c .trace .ensures .0) (c .trace .ensures .1)))
+    (k .before .before .before .before .loop .inv .0, rw (k .look .ensures .0) (leads t k (c .before .before .if3 .taken) .gives (c .before .over2 .result) (c .before .over2 .ensures) (c .trace .result) (c .trace .ensures .0) (c .trace .ensures .1)))
 
 trace-loop-less-3 : (t : ℕ) → trace-lts.Need-loop-less-3 (called t) (trace-at t) trace.Post trace-Inv-loop trace-μ-loop
 trace-loop-less-3 t c = nearer t (c .before .before .before .before)
@@ -145,7 +148,7 @@ trace-loop-again-3 : (t : ℕ) → trace-lts.Need-loop-again-3 (called t) (trace
 trace-loop-again-3 t c =
     let k = c .before .before .before .before in
     let a = start t k .args in
-    let l = k .before .before .before .loop in
+    let l = k .before .before .before .before .loop in
     (l .inv .0, rw (k .look .ensures .0) (rest-past (a .net .now) (a .want) (a .at) (a .met) (a .t) (start t k .pre .1 .0) (l .inv .1) (inside t k) (k .look .ensures .1) (c .before .before .if2 .left) (c .if3 .left)))
 
 trace-returns-2 : (t : ℕ) → trace-lts.Need-returns-2 (called t) (trace-at t) trace.Post trace-Inv-loop trace-μ-loop
@@ -165,6 +168,7 @@ pub +trace-spec : {M : Type 1} → statement M
     (trace-first-requires t)
     (trace-loop-holds t)
     (trace-returns t)
+    (search needs)
     (trace-look-requires t)
     (trace-over-requires t)
     (trace-meet-requires t)
