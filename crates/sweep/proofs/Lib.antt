@@ -1,5 +1,6 @@
 pub mod TryLaws
 pub mod SweepLaws
+pub mod WalkLaws
 pub mod FoldLaws
 pub mod MainLaws
 pub mod SweptLaws

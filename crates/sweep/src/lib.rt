@@ -2,12 +2,14 @@
 ghost use mathlib.Core.Path.{_≡_};
 ghost use mathlib.Core.Bool.{false};
 ghost use mathlib.Core.List.{foldl};
-ghost use Prim.Native.Nat.{suc, _+_, _<_, _≤_, _^_, min, max};
+ghost use Prim.Native.Nat.{suc, _+_, _<_, _≤_, _^_, max};
+ghost use lib.Dec.{ltb};
 ghost use lib.ListN.{length};
 ghost use Rattle.problem.specs.Table.{mostReach};
 ghost use Rattle.problem.specs.Routes.{arcAt};
 ghost use Rattle.net.specs.Net.{Net, arcsIn, wordAt, nextFrom, lowerFrom, terminalAt, reachAt, sourceAt};
 ghost use Rattle.sweep.specs.Sweep.{bestWith, taken, ended, Seen, Ready, Sweeps};
+ghost use Rattle.sweep.specs.Run.{runSize, hiAt, sweptIn, UnderWay, Cuts, Meets, Walks};
 
 // The routes of lo to hi metres are mains; after `cap` of them in all, the sweep gives up.
 pub struct Window {
@@ -176,25 +178,105 @@ pub fn look(net: &[u64], i: u64, met: u64, metres: u64, risks: u64, hi: u64) -> 
     }
 }
 
-fn cut_at(s: Swept, to: u64) -> Swept
-    ensures { λ r. ⌜ (r .tally ≡ s .tally) × (r .cut ≡ min (s .cut) to) ⌝ }
+// A sweep under way in words, the window, the tally and the cut, so that one reference is handed on from call to call and no struct is copied.
+const RUN_WORDS: usize = 8;
+
+const LO: usize = 0;
+
+const HI: usize = 1;
+
+const CAP: usize = 2;
+
+const RANKED: usize = 3;
+
+const LAST: usize = 4;
+
+const BEST: usize = 5;
+
+const OVER: usize = 6;
+
+const CUT: usize = 7;
+
+// A bool as a word.
+fn flag(over: bool) -> u64
+    ensures { λ r. ⌜ ltb 0 r ≡ over ⌝ }
 {
-    let t = s.tally;
-    if s.cut < to {
-        return s;
+    if over {
+        return 1;
     }
-    Swept { tally: t, cut: to }
+    0
 }
 
-fn meet_route(net: &[u64], w: Window, metres: u64, risks: u64, s: Swept) -> Swept
-    requires { ⌜ Net (now net) × (metres ≤ mostReach) ⌝ }
-    ensures { λ r. ⌜ (r .tally ≡ ended (arcsIn (now (net .entry))) (wordAt (now (net .entry)) sourceAt) (wordAt (now (net .entry)) terminalAt) (wordAt (now (net .entry)) reachAt) w metres risks (s .tally)) × (r .cut ≡ s .cut) ⌝ }
+// What is cut off is at least `to` metres long.
+fn cut_at(run: &mut [u64; RUN_WORDS], to: u64)
+    requires { ⌜ length (now run) ≡ runSize ⌝ }
+    ensures { λ _. ⌜ Cuts to (now (run .entry)) (now (run .exit)) ⌝ }
 {
-    let t = s.tally;
+    if to < run[CUT] {
+        run[CUT] = to;
+    }
+}
+
+// A route of so many metres ended within the window's end.
+fn meet_route(net: &[u64], run: &mut [u64; RUN_WORDS], metres: u64, risks: u64)
+    requires { ⌜ Net (now net) × (metres ≤ mostReach) × UnderWay (now run) ⌝ }
+    ensures { λ _. ⌜ Meets (now (net .entry)) metres risks (now (run .entry)) (now (run .exit)) ⌝ }
+{
+    let w = Window {
+        lo: run[LO],
+        hi: run[HI],
+        cap: run[CAP],
+    };
+    let t = Tally {
+        ranked: run[RANKED],
+        last: run[LAST],
+        best: run[BEST],
+        over: false,
+    };
     let u = end_route(net, w, metres, risks, t);
+    run[RANKED] = u.ranked;
+    run[LAST] = u.last;
+    run[BEST] = u.best;
+    run[OVER] = flag(u.over);
+}
+
+// The sweep of what grows from `at`. Only a route's end passes the cap, so `over` is read after one and after a walk, and not at each arc.
+fn walk(net: &[u64], run: &mut [u64; RUN_WORDS], at: u64, met: u64, metres: u64, risks: u64)
+    requires { ⌜ Ready (now net) (wordAt (now run) hiAt) at metres × UnderWay (now run) ⌝ }
+    ensures { λ _. ⌜ Walks (now (net .entry)) at met metres risks (now (run .entry)) (now (run .exit)) ⌝ }
+{
+    let mut i = net::first(net, at);
+    while i < net::arc_count(net) {
+        let l = look(net, i, met, metres, risks, run[HI]);
+        i = l.next;
+        if l.kind == 1 {
+            cut_at(run, l.to);
+        } else if l.kind == 2 {
+            meet_route(net, run, l.metres, l.risks);
+            if 0 < run[OVER] {
+                return;
+            }
+        } else if l.kind == 3 {
+            walk(net, run, l.head, l.met, l.metres, l.risks);
+            if 0 < run[OVER] {
+                return;
+            }
+        }
+    }
+}
+
+fn swept_in(run: [u64; RUN_WORDS]) -> Swept
+    ensures { λ r. ⌜ r ≡ sweptIn run ⌝ }
+{
+    let t = Tally {
+        ranked: run[RANKED],
+        last: run[LAST],
+        best: run[BEST],
+        over: 0 < run[OVER],
+    };
     Swept {
-        tally: u,
-        cut: s.cut,
+        tally: t,
+        cut: run[CUT],
     }
 }
 
@@ -203,23 +285,11 @@ pub fn sweep(net: &[u64], w: Window, at: u64, met: u64, metres: u64, risks: u64,
     requires { ⌜ Ready (now net) (w .hi) at metres ⌝ }
     ensures { λ r. ⌜ Sweeps (now (net .entry)) w at met metres risks s r ⌝ }
 {
-    let n = net::arc_count(net);
-    let mut r = s;
-    let mut i = net::first(net, at);
-    while i < n {
-        let t = r.tally;
-        if t.over {
-            return r;
-        }
-        let l = look(net, i, met, metres, risks, w.hi);
-        i = l.next;
-        if l.kind == 1 {
-            r = cut_at(r, l.to);
-        } else if l.kind == 2 {
-            r = meet_route(net, w, l.metres, l.risks, r);
-        } else if l.kind == 3 {
-            r = sweep(net, w, l.head, l.met, l.metres, l.risks, r);
-        }
+    let t = s.tally;
+    if t.over {
+        return s;
     }
-    r
+    let mut run = [w.lo, w.hi, w.cap, t.ranked, t.last, t.best, 0, s.cut];
+    walk(net, &mut run, at, met, metres, risks);
+    swept_in(run)
 }

@@ -1,0 +1,191 @@
+-- `sweep::walk` meets its contract. The invariant: the cap is not passed, and the sweep that the words say stands at an arc of the node's chain (`Walking`).
+-- Each kind of arc has its law, of the arc in hand. The loop's measure is the arcs ahead, the recursion's the nodes not met. Assumes nothing.
+use native.Mathlib.Omega.{arith}
+use lib.ListN.{length}
+use Rattle.laws.specs.Sets.{unmet}
+use Rattle.net.specs.Net.{arcsIn}
+use Rattle.sweep.specs.Run.{UnderWay}
+use Rattle.sweep.proofs.WalkLaws.{cut-under-way, Walking, walking-start, walking-end, walking-over, walking-on, InHand, walking-past, walking-met, walking-cut, route-in-reach, walking-ends, walking-leads}
+use Prim.Native.Nat.{ℕ, _-_, _<_}
+use borrow.Author.Needs.{needs}
+use borrow.Fn.Kinds.{In}
+use borrow.Fn.PlainCycle.{Measures, is, falls, and}
+use Rattle.sweep.proofs.walk.Reads as walk
+use Rattle.sweep.proofs.walk.Kinds as walk-kinds
+use Rattle.sweep.proofs.+walk.Lts-walk as walk-lts
+use Rattle.net.proofs.arc_count.Reads as arc-count-reads
+use Rattle.net.proofs.first.Reads as first-reads
+use Rattle.sweep.proofs.cut_at.Reads as cut-at-reads
+use Rattle.sweep.proofs.look.Reads as look-reads
+use Rattle.sweep.proofs.meet_route.Reads as meet-route-reads
+use Rattle.sweep.proofs.+walk.{statement}
+use Rattle.sweep.proofs.+walk.Tie.{close}
+
+abbrev μ-walk : Measures 2 walk-kinds.ps ℕ
+μ-walk κs a = unmet 32 (a .1 .1 .1 .0)
+
+abbrev walk-at : ℕ → In 2 walk-kinds.ps
+walk-at t = and 2 walk-kinds.ps (is 2 walk-kinds.ps μ-walk t) walk.Pre
+
+abbrev walk-below : ℕ → In 2 walk-kinds.ps
+walk-below t = and 2 walk-kinds.ps (falls 2 walk-kinds.ps _<_ μ-walk t) walk.Pre
+
+abbrev called : ℕ → walk-lts.Claims
+called t = (
+  first-reads.Asked,
+  first-reads.Learnt,
+  arc-count-reads.Asked,
+  arc-count-reads.Learnt,
+  look-reads.Asked,
+  look-reads.Learnt,
+  cut-at-reads.Asked,
+  cut-at-reads.Learnt,
+  meet-route-reads.Asked,
+  meet-route-reads.Learnt,
+  walk-below t,
+  walk.Post,
+)
+
+abbrev walk-Inv-loop : walk-lts.InvT-loop
+walk-Inv-loop net run₀ at met metres risks i₀ run i = UnderWay run × Walking net at met metres risks run₀ run i
+
+abbrev walk-μ-loop : walk-lts.MeasureT-loop
+walk-μ-loop net run₀ at met metres risks i₀ run i = length (arcsIn net) - i
+
+-- where an arc was looked at
+abbrev Looked : ℕ → Type 0
+Looked t = walk-lts.After-look (called t) (walk-at t) walk.Post walk-Inv-loop walk-μ-loop
+
+in-hand : (t : ℕ) (k : Looked t) → let o = k .before .before .before .before in let s = o .before .before .before in
+    InHand (s .args .net .now) (s .args .at) (s .args .met) (s .args .metres) (s .args .risks) (s .args .run .now) (o .loop .run) (o .loop .i) (k .look .result)
+in-hand t k =
+    let o = k .before .before .before .before in
+    let s = o .before .before .before in
+    record {
+      start = s .pre .1 .0;
+      walking = o .loop .inv .1;
+      under-way = o .loop .inv .0;
+      inside = omega (arith, k .before .before .if1 .taken, k .before .before .before .arc-count .ensures);
+      seen = k .look .ensures .1;
+    }
+
+-- the arcs ahead get fewer
+fewer-ahead : (t : ℕ) (k : Looked t) → let o = k .before .before .before .before in let s = o .before .before .before in
+    length (arcsIn (s .args .net .now)) - k .look .result .next < length (arcsIn (s .args .net .now)) - o .loop .i
+fewer-ahead t k = omega (arith, k .look .ensures .0, in-hand t k .inside, walking-past (in-hand t k))
+
+walk-first-requires : (t : ℕ) → walk-lts.Need-first-requires (called t) (walk-at t) walk.Post walk-Inv-loop walk-μ-loop
+walk-first-requires t c κs = let r = c .before .pre .1 .0 in (r .words, r .node)
+
+walk-loop-holds : (t : ℕ) → walk-lts.Need-loop-holds (called t) (walk-at t) walk.Post walk-Inv-loop walk-μ-loop
+walk-loop-holds t c =
+    let s = c .before .before in
+    (s .pre .1 .1, rw (c .first .ensures) (walking-start (s .args .met) (s .args .risks) (s .args .run .now) (s .pre .1 .0)))
+
+walk-arc-count-requires : (t : ℕ) → walk-lts.Need-arc-count-requires (called t) (walk-at t) walk.Post walk-Inv-loop walk-μ-loop
+walk-arc-count-requires t c κs = c .before .before .before .pre .1 .0 .words
+
+walk-look-requires : (t : ℕ) → walk-lts.Need-look-requires (called t) (walk-at t) walk.Post walk-Inv-loop walk-μ-loop
+walk-look-requires t c κs =
+    let n = c .before .before in
+    let r = n .before .before .before .before .pre .1 .0 in
+    (r .words, omega (arith, c .before .if1 .taken, n .arc-count .ensures), omega (arith, r .in-window, r .hi-range))
+
+walk-cut-at-requires : (t : ℕ) → walk-lts.Need-cut-at-requires (called t) (walk-at t) walk.Post walk-Inv-loop walk-μ-loop
+walk-cut-at-requires t c κs = in-hand t (c .before .before .before) .under-way .size
+
+walk-loop-less : (t : ℕ) → walk-lts.Need-loop-less (called t) (walk-at t) walk.Post walk-Inv-loop walk-μ-loop
+walk-loop-less t c = fewer-ahead t (c .before .before .before .before)
+
+walk-loop-again : (t : ℕ) → walk-lts.Need-loop-again (called t) (walk-at t) walk.Post walk-Inv-loop walk-μ-loop
+walk-loop-again t c =
+    let k = c .before .before .before .before in
+    (cut-under-way (c .cut-at .ensures) (in-hand t k .under-way), rw (k .look .ensures .0) (walking-cut (in-hand t k) (c .before .before .if2 .taken) (c .cut-at .ensures)))
+
+walk-meet-route-requires : (t : ℕ) → walk-lts.Need-meet-route-requires (called t) (walk-at t) walk.Post walk-Inv-loop walk-μ-loop
+walk-meet-route-requires t c κs =
+    let h = in-hand t (c .before .before .before .before .before) in
+    (h .start .words, route-in-reach h (c .before .if3 .taken), h .under-way)
+
+walk-returns : (t : ℕ) → walk-lts.Need-returns (called t) (walk-at t) walk.Post walk-Inv-loop walk-μ-loop
+walk-returns t c =
+    let m = c .before .before in
+    let h = in-hand t (m .before .before .before .before .before .before) in
+    walking-over (walking-ends h (m .before .before .if3 .taken) (m .meet-route .ensures)) (h .start .words) (c .if4 .taken)
+
+walk-loop-less-2 : (t : ℕ) → walk-lts.Need-loop-less-2 (called t) (walk-at t) walk.Post walk-Inv-loop walk-μ-loop
+walk-loop-less-2 t c = fewer-ahead t (c .before .before .before .before .before .before .before .before)
+
+walk-loop-again-2 : (t : ℕ) → walk-lts.Need-loop-again-2 (called t) (walk-at t) walk.Post walk-Inv-loop walk-μ-loop
+walk-loop-again-2 t c =
+    let m = c .before .before in
+    let k = m .before .before .before .before .before .before in
+    let s = k .before .before .before .before .before .before .before in
+    let w = walking-ends (in-hand t k) (m .before .before .if3 .taken) (m .meet-route .ensures) in
+    (walking-on w (s .pre .1 .1) (c .if4 .left), rw (k .look .ensures .0) w)
+
+walk-walk-requires : (t : ℕ) → walk-lts.Need-walk-requires (called t) (walk-at t) walk.Post walk-Inv-loop walk-μ-loop
+walk-walk-requires t c κs =
+    let k = c .before .before .before .before .before .before .before in
+    let s = k .before .before .before .before .before .before .before in
+    let a = walking-leads (in-hand t k) (c .before .if5 .taken) in
+    (omega (arith, s .pre .0, a .fewer-nodes), (a .ready, in-hand t k .under-way))
+
+walk-returns-2 : (t : ℕ) → walk-lts.Need-returns-2 (called t) (walk-at t) walk.Post walk-Inv-loop walk-μ-loop
+walk-returns-2 t c =
+    let m = c .before .before in
+    let h = in-hand t (m .before .before .before .before .before .before .before .before) in
+    walking-over (walking-leads h (m .before .before .if5 .taken) .gives (m .walk .ensures)) (h .start .words) (c .if6 .taken)
+
+walk-loop-less-3 : (t : ℕ) → walk-lts.Need-loop-less-3 (called t) (walk-at t) walk.Post walk-Inv-loop walk-μ-loop
+walk-loop-less-3 t c = fewer-ahead t (c .before .before .before .before .before .before .before .before .before .before)
+
+walk-loop-again-3 : (t : ℕ) → walk-lts.Need-loop-again-3 (called t) (walk-at t) walk.Post walk-Inv-loop walk-μ-loop
+walk-loop-again-3 t c =
+    let m = c .before .before in
+    let k = m .before .before .before .before .before .before .before .before in
+    let s = k .before .before .before .before .before .before .before in
+    let w = walking-leads (in-hand t k) (m .before .before .if5 .taken) .gives (m .walk .ensures) in
+    (walking-on w (s .pre .1 .1) (c .if6 .left), rw (k .look .ensures .0) w)
+
+walk-loop-less-4 : (t : ℕ) → walk-lts.Need-loop-less-4 (called t) (walk-at t) walk.Post walk-Inv-loop walk-μ-loop
+walk-loop-less-4 t c = fewer-ahead t (c .before .before .before .before .before .before)
+
+walk-loop-again-4 : (t : ℕ) → walk-lts.Need-loop-again-4 (called t) (walk-at t) walk.Post walk-Inv-loop walk-μ-loop
+walk-loop-again-4 t c =
+    let k = c .before .before .before .before .before .before in
+    (in-hand t k .under-way, rw (k .look .ensures .0) (walking-met (in-hand t k) (c .before .before .before .before .if2 .left) (c .before .before .if3 .left) (c .if5 .left)))
+
+walk-returns-3 : (t : ℕ) → walk-lts.Need-returns-3 (called t) (walk-at t) walk.Post walk-Inv-loop walk-μ-loop
+walk-returns-3 t c =
+    let o = c .before .before in
+    let s = o .before .before .before in
+    walking-end (o .loop .inv .1) (s .pre .1 .0 .words) (omega (arith, c .before .arc-count .ensures, c .if1 .left))
+
+pub +walk-spec : {M : Type 1} → statement M
++walk-spec = close μ-walk λ t. walk-lts.spec (called t)
+    (walk-at t)
+    walk.Post
+    walk-Inv-loop
+    walk-μ-loop
+    (walk-first-requires t)
+    (walk-loop-holds t)
+    (walk-arc-count-requires t)
+    (λ c. search needs)
+    (walk-look-requires t)
+    (walk-cut-at-requires t)
+    (walk-loop-less t)
+    (walk-loop-again t)
+    (walk-meet-route-requires t)
+    (λ c. search needs)
+    (walk-returns t)
+    (walk-loop-less-2 t)
+    (walk-loop-again-2 t)
+    (walk-walk-requires t)
+    (λ c. search needs)
+    (walk-returns-2 t)
+    (walk-loop-less-3 t)
+    (walk-loop-again-3 t)
+    (walk-loop-less-4 t)
+    (walk-loop-again-4 t)
+    (walk-returns-3 t)
