@@ -26,20 +26,22 @@ returns c =
     let q = request (a .source) (a .terminal) (a .reach) (a .allowance) in
     untouched (answer (a .table .now) q (length (a .reply .now))) (f .refusal .result) (a .reply .now) (refused (a .table .now) q (length (a .reply .now)) (f .refusal .result) (f .refusal .ensures) (c .if1 .taken))
 
+-- past the checks
+passed : (g : tie.Else1) → let a = g .before .before .before .before .args in
+    Passed (a .table .now) (request (a .source) (a .terminal) (a .reach) (a .allowance)) (length (a .reply .now))
+passed g =
+    let a = g .before .before .before .before .args in
+    refusal-passed (a .table .now) (request (a .source) (a .terminal) (a .reach) (a .allowance)) (length (a .reply .now)) (sym (g .before .refusal .ensures) ∙ g .if1 .left)
+
 cast-plan-checked : tie.Need-cast-plan-checked
-cast-plan-checked c =
-    let f = c .before in
-    omega (arith, refusal-passed _ _ _ (sym (f .refusal .ensures) ∙ c .if1 .left) .source-node)
+cast-plan-checked c = omega (arith, passed c .source-node)
 
 cast-plan-checked-2 : tie.Need-cast-plan-checked-2
-cast-plan-checked-2 c =
-    let f = c .before in
-    omega (arith, refusal-passed _ _ _ (sym (f .refusal .ensures) ∙ c .if1 .left) .terminal-node)
+cast-plan-checked-2 c = omega (arith, passed c .terminal-node)
 
 plan-checked-requires : tie.Need-plan-checked-requires
 plan-checked-requires c κs =
-    let f = c .before in
-    let p = refusal-passed _ _ _ (sym (f .refusal .ensures) ∙ c .if1 .left) in
+    let p = passed c in
     (p .few-bytes, p .sound, p .source-node, p .terminal-node, p .ends-differ, p .reach-range, p .some-allowance, p .allowance-range)
 
 returns-2 : tie.Need-returns-2
@@ -65,7 +67,7 @@ returns-3 c =
     let f = g .before in
     let a = f .before .before .before .args in
     let q = request (a .source) (a .terminal) (a .reach) (a .allowance) in
-    absurd (true≢false (sym (c .if3 .taken) ∙ l .is-too-long .ensures ∙ not-too-long (a .table .now) q (length (a .reply .now)) (refusal-passed _ _ _ (sym (f .refusal .ensures) ∙ g .if1 .left)) (m .plan-checked .ensures .some (not-false _ (t .if2 .left)))))
+    absurd (true≢false (sym (c .if3 .taken) ∙ l .is-too-long .ensures ∙ not-too-long (a .table .now) q (length (a .reply .now)) (passed g) (m .plan-checked .ensures .some (not-false _ (t .if2 .left)))))
 
 write-requires : tie.Need-write-requires
 write-requires c κs =
@@ -73,7 +75,7 @@ write-requires c κs =
     let m = t .before .before in
     let g = m .before in
     let f = g .before in
-    let p = refusal-passed _ _ _ (sym (f .refusal .ensures) ∙ g .if1 .left) in
+    let p = passed g in
     let o = m .plan-checked .ensures .some (not-false _ (t .if2 .left)) in
     (p .room, o .main-fit, o .standby-fit)
 
@@ -92,7 +94,7 @@ returns-4 c =
     let f = g .before in
     let a = f .before .before .before .args in
     let q = request (a .source) (a .terminal) (a .reach) (a .allowance) in
-    let o = given (a .table .now) q (length (a .reply .now)) (refusal-passed _ _ _ (sym (f .refusal .ensures) ∙ g .if1 .left)) (m .plan-checked .ensures .some (not-false _ (t .if2 .left))) (a .reply .now) in
+    let o = given (a .table .now) q (length (a .reply .now)) (passed g) (m .plan-checked .ensures .some (not-false _ (t .if2 .left))) (a .reply .now) in
     (o .0, w .write .ensures ∙ o .1)
 
 pub feshangul-plan-spec : {M : Type 1} → statement M
