@@ -1,13 +1,14 @@
--- A table is laid out once its arcs, its nodes and its request are written one after the other: each later writing keeps the words of those before it,
+-- A table is laid out once its arcs, its nodes, its doors and its request are written one after the other: each later writing keeps the words of those before it,
 -- and the words of an arc say that arc. Assumes nothing.
 use Prim.Native.Nat.{ℕ, _+_, _*_, _≤_, _<_, _^_}
 use mathlib.Core.Bool.{Bool, true, false}
 use mathlib.Core.List.{List, []}
-use mathlib.Core.Path.{_≡_, refl, _∙_}
+use mathlib.Core.Path.{_≡_, refl, sym, ap, _∙_}
+use native.Mathlib.Decide.{ℕ-discrete}
 use native.Mathlib.Omega.{arith}
 use lib.Bits.{and-zero-r}
-use lib.ListN.{length, getD}
-use lib.Seq.{ext-getD}
+use lib.ListN.{length, getD, set, length-set}
+use lib.Seq.{getD-set-same, getD-set-other, ext-getD}
 use Rattle.problem.specs.declared.Arc.{Arc}
 use Rattle.problem.specs.Table.{lastNode, mostReach, allSound}
 use Rattle.problem.specs.Routes.{arcAt, metresOf, risksOf, Way}
@@ -15,10 +16,10 @@ use Rattle.problem.proofs.TableLaws.{sound-at}
 use Rattle.side.specs.declared.Side.{Side}
 use Rattle.side.specs.Side.{reachedAt, metresAt, SideTable}
 use Rattle.chain.specs.Chain.{Chain}
-use Rattle.net.specs.Net.{metresFrom, headsFrom, nextFrom, tailsFrom, firstFrom, lowerFrom, arcCountAt, netSize, wordAt, arcsIn, Chained}
+use Rattle.net.specs.Net.{metresFrom, headsFrom, nextFrom, tailsFrom, firstFrom, lowerFrom, arcCountAt, doorCountAt, doorsFrom, netSize, wordAt, arcsIn, DoorWith, Chained}
 use Rattle.net.proofs.NetLaws.{arcs-count, arc-is}
 use Rattle.layout.specs.Spread.{Spread, Columns}
-use Rattle.layout.specs.Layout.{arcColumn, nodeColumn, requestWords, lowerOf, LaidOut}
+use Rattle.layout.specs.Layout.{arcColumn, nodeColumn, requestWords, lowerOf, Doors, LaidOut}
 
 -- ---- lower bounds
 
@@ -46,25 +47,72 @@ module _ {arcs : List Arc} {terminal : ℕ} {side : Side} (table : SideTable arc
       go true e = rw (lower-reached v e) (omega (arith, table .most-metres v))
       go false e = rw e (omega arith)
 
+-- ---- doors
+
+pub doors-none : (arcs : List Arc) (terminal : ℕ) (before : List ℕ) → Doors 0 arcs terminal 0 before before
+doors-none arcs terminal before = record { size = refl; few = omega arith; here = λ k h. absurd (omega arith); elsewhere = λ i h. refl }
+
+module _ {n : ℕ} {arcs : List Arc} {terminal count : ℕ} {before after : List ℕ} (d : Doors n arcs terminal count before after) where
+  -- an arc that leads elsewhere
+  pub doors-past : (arcAt arcs n .head ≡ terminal → ⊥) → Doors (n + 1) arcs terminal count before after
+  doors-past off = record {
+    size = d .size;
+    few = omega (arith, d .few);
+    here = λ k h e. elim (ℕ-discrete k n) [ yes q ↦ absurd (off (rw q at e)) | no m ↦ d .here k (omega arith) e ];
+    elsewhere = d .elsewhere;
+  }
+
+  -- one more door, written behind the others
+  pub doors-more : {risks : ℕ} → risks ≡ arcAt arcs n .risks → doorsFrom + count < length before → Doors (n + 1) arcs terminal (count + 1) before (set after (doorsFrom + count) risks)
+  doors-more {risks} r inside = record {
+    size = simp length-set (d .size);
+    few = omega (arith, d .few);
+    here = λ k h e. elim (ℕ-discrete k n) [
+      | yes q ↦
+          record { place = count; inside = omega arith; is = getD-set-same after (doorsFrom + count) risks 0 (omega (arith, d .size)) ∙ r ∙ ap (λ (x : ℕ). arcAt arcs x .risks) (sym q) }
+      | no m ↦
+          let w = d .here k (omega arith) e in
+          record {
+            place = w .place;
+            inside = omega (arith, w .inside);
+            is = getD-set-other after (doorsFrom + count) (doorsFrom + w .place) risks 0 (λ q. omega (arith, w .inside)) ∙ w .is;
+          }
+    ];
+    elsewhere = λ i h. getD-set-other after (doorsFrom + count) i risks 0 (λ q. omega arith) ∙ d .elsewhere i h;
+  }
+
 -- ---- all words
 
 fields-say : (a : Arc) {tail head metres risks : ℕ} → tail ≡ a .tail → head ≡ a .head → a .spare ≡ 0 → metres ≡ a .metres → risks ≡ a .risks
     → record { tail = tail; head = head; spare = 0; metres = metres; risks = risks } ≡ a
 fields-say a t h s m r = rw (t, h, ← s, m, r)
 
-module _ {arcs : List Arc} {source terminal reach : ℕ} {side : Side} {chain empty with-arcs with-nodes net : List ℕ}
+module _ {arcs : List Arc} {source terminal reach : ℕ} {side : Side} {doors : ℕ} {chain empty with-arcs with-nodes with-doors net : List ℕ}
     (few : length arcs ≤ 128) (sound : allSound arcs ≡ true)
     (source-node : source ≤ lastNode) (terminal-node : terminal ≤ lastNode) (ends-differ : source ≡ terminal → ⊥) (reach-range : reach ≤ mostReach)
     (table : SideTable arcs terminal 0 side) (chained : Chain arcs chain) (size : length empty ≡ netSize)
     (of-arcs : Columns (length arcs) (arcColumn arcs chain) 0 metresFrom empty with-arcs)
     (of-nodes : Columns 32 (nodeColumn chain side) firstFrom 32 with-arcs with-nodes)
-    (of-request : Spread 4 (requestWords (length arcs) terminal reach source) arcCountAt 1 with-nodes net) where
+    (of-doors : Doors (length arcs) arcs terminal doors with-nodes with-doors)
+    (of-request : Spread 5 (requestWords (length arcs) terminal reach source doors) arcCountAt 1 with-doors net) where
   arc-word : (i k j : ℕ) → i ≡ 0 + k + metresFrom * j → k < length arcs → j < 5 → wordAt net i ≡ getD (arcColumn arcs chain k) j 0
   arc-word i k j e h l =
-      of-request .elsewhere i (λ x m q. omega arith) ∙ of-nodes .elsewhere i (λ v x m o q. omega arith) ∙ rw e (of-arcs .here k j h l)
+      of-request .elsewhere i (λ x m q. omega arith)
+      ∙ of-doors .elsewhere i (omega arith)
+      ∙ of-nodes .elsewhere i (λ v x m o q. omega arith)
+      ∙ rw e (of-arcs .here k j h l)
 
   node-word : (i v j : ℕ) → i ≡ firstFrom + v + 32 * j → v ≤ lastNode → j < 2 → wordAt net i ≡ getD (nodeColumn chain side v) j 0
-  node-word i v j e h l = of-request .elsewhere i (λ x m q. omega arith) ∙ rw e (of-nodes .here v j (omega arith) l)
+  node-word i v j e h l = of-request .elsewhere i (λ x m q. omega arith) ∙ of-doors .elsewhere i (omega arith) ∙ rw e (of-nodes .here v j (omega arith) l)
+
+  -- the number of doors stands where it is read
+  doors-count : wordAt net doorCountAt ≡ doors
+  doors-count = of-request .here 4 (omega arith)
+
+  door-word : (k : ℕ) → k < length arcs → arcAt arcs k .head ≡ terminal → DoorWith (arcAt arcs k .risks) (wordAt net doorCountAt) net
+  door-word k h e =
+      let w = of-doors .here k h e in
+      record { place = w .place; inside = omega (arith, w .inside, doors-count); is = of-request .elsewhere (doorsFrom + w .place) (λ x m q. omega arith) ∙ w .is }
 
   lower-word : (v : ℕ) → v ≤ lastNode → wordAt net (lowerFrom + v) ≡ lowerAt side v
   lower-word v h = node-word (lowerFrom + v) v 1 (omega arith) h (omega arith)
@@ -87,7 +135,7 @@ module _ {arcs : List Arc} {source terminal reach : ℕ} {side : Side} {chain em
 
   hang-together : Chained arcs terminal net
   hang-together = record {
-    size = of-request .size ∙ of-nodes .size ∙ of-arcs .size ∙ size;
+    size = of-request .size ∙ of-doors .size ∙ of-nodes .size ∙ of-arcs .size ∙ size;
     few = few;
     sound = sound;
     terminal-node = terminal-node;
@@ -99,6 +147,8 @@ module _ {arcs : List Arc} {source terminal reach : ℕ} {side : Side} {chain em
     lower = λ v h w. rw (lower-word v h) (lower-least table v w);
     lower-small = λ v h. rw (lower-word v h) (lower-low table v);
     lower-terminal = lower-word terminal terminal-node ∙ lower-reached table terminal (table .entries .terminal-reached) ∙ table .entries .terminal-metres;
+    few-doors = omega (arith, doors-count, of-doors .few, few);
+    door = door-word;
   }
 
   pub laid-out : LaidOut arcs source terminal reach side net

@@ -9,11 +9,12 @@ ghost use Rattle.side.specs.Side.{SideTable};
 ghost use Rattle.chain.specs.Chain.{chainSize};
 ghost use Rattle.net.specs.Net.{metresFrom, firstFrom, netSize};
 ghost use Rattle.layout.specs.Spread.{Spread, Columns};
-ghost use Rattle.layout.specs.Layout.{arcColumn, nodeColumn, lowerOf, LaidOut};
+ghost use Rattle.layout.specs.Layout.{arcColumn, nodeColumn, lowerOf, Doors, LaidOut};
 
-pub const WORDS: usize = 708;
+pub const WORDS: usize = 837;
 
-// The words of an arc stand 128 apart, those of a node 32. The nodes' words begin at 640; from 704 on stand the number of arcs and the request.
+// The words of an arc stand 128 apart, those of a node 32. The nodes' words begin at 640; from 704 on stand the number of arcs, the request and
+// the number of doors, and from 709 on the doors' risks.
 const ARC_STEP: usize = 128;
 
 const NODE_STEP: usize = arcs::NODES;
@@ -21,6 +22,8 @@ const NODE_STEP: usize = arcs::NODES;
 const NODES_FROM: usize = 640;
 
 const REQUEST_FROM: usize = 704;
+
+const DOORS_FROM: usize = 709;
 
 // The lower bound of a node from which no way leads on: past every reach.
 pub const FAR: u64 = 4000000000;
@@ -81,6 +84,25 @@ fn lay_nodes(net: &mut [u64], chain: &[u8], side: Side)
     }
 }
 
+// Writes the risks of the doors, the arcs into the terminal, and says how many there are.
+fn lay_doors(net: &mut [u64], table: &[u8], terminal: u8) -> usize
+    requires { ⌜ (length (now net) ≡ netSize) × (length (now table) ≤ mostTableBytes) ⌝ }
+    ensures { λ r. ⌜ Doors (length (arcsOf (now (table .entry)))) (arcsOf (now (table .entry))) terminal r (now (net .entry)) (now (net .exit)) ⌝ }
+{
+    let arc_count = table.len() / 16;
+    let mut count = 0;
+    let mut k = 0;
+    while k < arc_count {
+        let a = arcs::arc_at(table, k);
+        k += 1;
+        if a.head == terminal {
+            net[DOORS_FROM + count] = a.risks;
+            count += 1;
+        }
+    }
+    count
+}
+
 // Writes the table and the request as words, over whatever stands there. `side` is the side table with no risk banned.
 pub fn lay_out(net: &mut [u64], table: &[u8], source: u8, terminal: u8, reach: u32, side: Side)
     requires { ⌜ (length (now table) ≤ mostTableBytes) × (allSound (arcsOf (now table)) ≡ true) ⌝ }
@@ -93,6 +115,13 @@ pub fn lay_out(net: &mut [u64], table: &[u8], source: u8, terminal: u8, reach: u
     let count = table.len() / 16;
     lay_arcs(net, table, &chain);
     lay_nodes(net, &chain, side);
-    let request = [count as u64, terminal as u64, reach as u64, source as u64];
+    let doors = lay_doors(net, table, terminal);
+    let request = [
+        count as u64,
+        terminal as u64,
+        reach as u64,
+        source as u64,
+        doors as u64,
+    ];
     spread(net, REQUEST_FROM, 1, &request);
 }

@@ -9,7 +9,8 @@ use Rattle.problem.specs.Table.{lastNode, mostReach, allSound}
 use Rattle.problem.specs.Routes.{arcAt, Way, metresOf}
 use Rattle.chain.specs.Chain.{Next}
 
--- where the words of each kind begin: 128 words for the arcs' risks, metres, heads, next arcs and tails, 32 for the nodes' first arcs and lower bounds
+-- where the words of each kind begin: 128 words for the arcs' risks, metres, heads, next arcs and tails, 32 for the nodes' first arcs and lower bounds;
+-- behind the request's words up to 128 for the risks of the doors, the arcs into the terminal
 abbrev pub metresFrom : ℕ
 metresFrom = 128
 
@@ -40,8 +41,14 @@ reachAt = 706
 abbrev pub sourceAt : ℕ
 sourceAt = 707
 
+abbrev pub doorCountAt : ℕ
+doorCountAt = 708
+
+abbrev pub doorsFrom : ℕ
+doorsFrom = 709
+
 abbrev pub netSize : ℕ
-netSize = 708
+netSize = 837
 
 abbrev pub wordAt : List ℕ → ℕ → ℕ
 wordAt net i = getD net i 0
@@ -55,6 +62,12 @@ arcsFrom net (suc n) k =
 
 unfoldable pub arcsIn : List ℕ → List Arc
 arcsIn net = arcsFrom net (wordAt net arcCountAt) 0
+
+-- among the risks of so many doors stand these
+pub record DoorWith (risks count : ℕ) (net : List ℕ) : Type 0 where
+  pub place : ℕ
+  pub inside : place < count
+  pub is : wordAt net (doorsFrom + place) ≡ risks
 
 -- what else holds of words that say these arcs, to this terminal
 pub record Chained (arcs : List Arc) (terminal : ℕ) (net : List ℕ) : Type 0 where
@@ -72,6 +85,9 @@ pub record Chained (arcs : List Arc) (terminal : ℕ) (net : List ℕ) : Type 0 
   pub lower : (v : ℕ) → v ≤ lastNode → {ks : List ℕ} → Way arcs v terminal ks → wordAt net (lowerFrom + v) ≤ metresOf arcs ks
   pub lower-small : (v : ℕ) → v ≤ lastNode → wordAt net (lowerFrom + v) < 2 ^ 32
   pub lower-terminal : wordAt net (lowerFrom + terminal) ≡ 0
+  -- each arc into the terminal is a door
+  pub few-doors : wordAt net doorCountAt ≤ 128
+  pub door : (k : ℕ) → k < length arcs → arcAt arcs k .head ≡ terminal → DoorWith (arcAt arcs k .risks) (wordAt net doorCountAt) net
 
 -- the words hang together
 abbrev pub Net : List ℕ → Type 0

@@ -4,7 +4,7 @@ ghost use Prim.Native.Nat.{_+_, _≤_, _<_, _^_};
 ghost use lib.ListN.{length};
 ghost use Rattle.problem.specs.Table.{lastNode, mostArcMetres, mostReach};
 ghost use Rattle.problem.specs.Routes.{arcAt};
-ghost use Rattle.net.specs.Net.{nextFrom, firstFrom, lowerFrom, terminalAt, reachAt, sourceAt, wordAt, arcsIn, Net};
+ghost use Rattle.net.specs.Net.{nextFrom, firstFrom, lowerFrom, terminalAt, reachAt, sourceAt, doorCountAt, doorsFrom, wordAt, arcsIn, Net};
 
 // Where the words of each kind begin.
 const METRES_FROM: u64 = 128;
@@ -26,6 +26,10 @@ const TERMINAL_AT: u64 = 705;
 const REACH_AT: u64 = 706;
 
 const SOURCE_AT: u64 = 707;
+
+const DOOR_COUNT_AT: u64 = 708;
+
+const DOORS_FROM: u64 = 709;
 
 // The word at a place.
 fn word(net: &[u64], at: u64) -> u64
@@ -107,4 +111,19 @@ pub fn source(net: &[u64]) -> u64
     ensures { λ r. ⌜ (r ≡ wordAt (now (net .entry)) sourceAt) × (r ≤ lastNode) ⌝ }
 {
     word(net, SOURCE_AT)
+}
+
+// How many arcs lead into the terminal, and the risks of each: these arcs are the doors.
+pub fn door_count(net: &[u64]) -> u64
+    requires { ⌜ Net (now net) ⌝ }
+    ensures { λ r. ⌜ r ≡ wordAt (now (net .entry)) doorCountAt ⌝ }
+{
+    word(net, DOOR_COUNT_AT)
+}
+
+pub fn door_risks(net: &[u64], j: u64) -> u64
+    requires { ⌜ Net (now net) × (j < wordAt (now net) doorCountAt) ⌝ }
+    ensures { λ r. ⌜ r ≡ wordAt (now (net .entry)) (doorsFrom + j) ⌝ }
+{
+    word(net, DOORS_FROM + j)
 }

@@ -1,1 +1,2 @@
+pub mod DoorLaws
 pub mod StandbyLaws

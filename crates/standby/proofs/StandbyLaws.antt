@@ -11,7 +11,7 @@ use lib.Dec.{eqb, leb}
 use lib.ListN.{length}
 use borrow.Author.Tests.{le-leb, lt-leb, eqb-true, eqb-false}
 use Rattle.laws.specs.Sets.{bit, with, unmet}
-use Rattle.laws.proofs.SetLaws.{bit-le-one, bit-and, bit-or, ones-mono, or-assoc, unmet-with}
+use Rattle.laws.proofs.SetLaws.{or-assoc, unmet-with}
 use Rattle.problem.specs.declared.Arc.{Arc}
 use Rattle.problem.specs.Table.{lastNode}
 use Rattle.problem.specs.Routes.{arcAt, metresOf, risksOf, Way, opens, grow}
@@ -24,16 +24,13 @@ use Rattle.keys.proofs.BoundLaws.{standbyKey-mono}
 use Rattle.net.specs.Net.{nextFrom, firstFrom, lowerFrom, terminalAt, reachAt, wordAt, arcsIn, Net}
 use Rattle.net.proofs.NetLaws.{left-next}
 use Rattle.standby.specs.declared.Hop.{Hop}
-use Rattle.standby.specs.Standby.{offer, Looked}
-
--- more risks behind share no less
-shared-mono : (main risks more : ℕ) → onesIn 64 (bitAnd main risks) ≤ onesIn 64 (bitAnd main (bitOr risks more))
-shared-mono main risks more = ones-mono 64 (bitAnd main risks) (bitAnd main (bitOr risks more)) (λ r. simp (bit-and, bit-or) (omega arith))
+use Rattle.standby.specs.Standby.{offer, EveryDoor, sharedAtLeast, Looked}
+use Rattle.standby.proofs.DoorLaws.{shared-ahead, shared-door}
 
 -- the key that was made from what was read
-pub key-read : (main risks : ℕ) {key shared word r to : ℕ} (m : ℕ) → key ≡ standbyKey shared to → shared ≡ onesIn 64 (bitAnd main (bitOr risks word)) → word ≡ r → to ≡ m
-    → key ≡ standbyKey (onesIn 64 (bitAnd main (bitOr risks r))) m
-key-read main risks m k s e t = k ∙ ap₂ standbyKey (s ∙ ap (λ (x : ℕ). onesIn 64 (bitAnd main (bitOr risks x))) e) t
+pub key-read : (main door risks : ℕ) {key most shared word r to : ℕ} (m : ℕ) → key ≡ standbyKey most to → most ≡ max door shared
+    → shared ≡ onesIn 64 (bitAnd main (bitOr risks word)) → word ≡ r → to ≡ m → key ≡ standbyKey (sharedAtLeast main door (bitOr risks r)) m
+key-read main door risks m k d s e t = k ∙ ap₂ standbyKey (d ∙ ap (max door) (s ∙ ap (λ (x : ℕ). onesIn 64 (bitAnd main (bitOr risks x))) e)) t
 
 module _ (arcs : List Arc) (reach main : ℕ) where
   -- an arc behind counts as well as one ahead
@@ -48,15 +45,15 @@ module _ (arcs : List Arc) (reach main : ℕ) where
   offer-far metres risks least ks h = rw (lt-leb (metres + metresOf arcs ks) reach h)
 
   -- what shares as many as the least key allows, and is as long, changes nothing
-  pub offer-no-better : (metres risks least lower : ℕ) (ks : List ℕ) → lower ≤ metresOf arcs ks → least ≤ standbyKey (onesIn 64 (bitAnd main risks)) (metres + lower)
-      → offer arcs reach main metres risks least ks ≡ least
+  pub offer-no-better : (metres risks least lower shared : ℕ) (ks : List ℕ) → lower ≤ metresOf arcs ks → shared ≤ onesIn 64 (bitAnd main (bitOr risks (risksOf arcs ks)))
+      → least ≤ standbyKey shared (metres + lower) → offer arcs reach main metres risks least ks ≡ least
   unfolding offer
-  offer-no-better metres risks least lower ks l h = go (leb (metres + metresOf arcs ks) reach) refl
+  offer-no-better metres risks least lower shared ks l s h = go (leb (metres + metresOf arcs ks) reach) refl
     where
       go : (b : Bool) → leb (metres + metresOf arcs ks) reach ≡ b → offer arcs reach main metres risks least ks ≡ least
       go true e =
           let longer : metres + lower ≤ metres + metresOf arcs ks = omega arith in
-          rw (e, offer) (omega (arith, h, standbyKey-mono (shared-mono main risks (risksOf arcs ks)) longer))
+          rw (e, offer) (omega (arith, h, standbyKey-mono s longer))
       go false e = rw (e, offer)
 
   -- a better one that ends here is the least
@@ -113,8 +110,9 @@ module _ (arcs : List Arc) (terminal reach main met at metres risks : ℕ) where
       pub left-far : reach < metres + arcAt arcs i .metres + lower → Left i least ≡ Left j least
       left-far h = left-idle (λ ks w. offer-far arcs reach main _ _ least ks (omega (arith, bound ks w)))
 
-      pub left-no-better : least ≤ standbyKey (onesIn 64 (bitAnd main (bitOr risks (arcAt arcs i .risks)))) (metres + arcAt arcs i .metres + lower) → Left i least ≡ Left j least
-      left-no-better h = left-idle (λ ks w. offer-no-better arcs reach main _ _ least lower ks (bound ks w) h)
+      pub left-no-better : {door : ℕ} → EveryDoor arcs terminal main door
+          → least ≤ standbyKey (sharedAtLeast main door (bitOr risks (arcAt arcs i .risks))) (metres + arcAt arcs i .metres + lower) → Left i least ≡ Left j least
+      left-no-better doors h = left-idle (λ ks w. offer-no-better arcs reach main _ _ least lower _ ks (bound ks w) (shared-ahead doors i inside risks w) h)
 
     pub left-ends : bit met (arcAt arcs i .head) ≡ 0 → arcAt arcs i .head ≡ terminal → metres + arcAt arcs i .metres ≤ reach
         → standbyKey (onesIn 64 (bitAnd main (bitOr risks (arcAt arcs i .risks)))) (metres + arcAt arcs i .metres) < least
@@ -183,25 +181,25 @@ module _ (net : List ℕ) (main at met metres risks : ℕ) where
       bound-head : (ks : List ℕ) → Way arcs (arcAt arcs i .head) terminal ks → wordAt net (lowerFrom + arcAt arcs i .head) ≤ metresOf arcs ks
       bound-head ks w = words .lower (arcAt arcs i .head) head-node w
 
-      module _ {h : Hop} (k : Looked terminal reach (wordAt net (lowerFrom + arcAt arcs i .head)) main met metres risks least (arcAt arcs i) h) where
+      module _ {door : ℕ} {h : Hop} (doors : EveryDoor arcs terminal main door) (k : Looked terminal reach (wordAt net (lowerFrom + arcAt arcs i .head)) main door met metres risks least (arcAt arcs i) h) where
         pub rest-past : (h .kind ≡ 1 → ⊥) → (h .kind ≡ 2 → ⊥) → Rest bound least (wordAt net (nextFrom + i))
         rest-past one two = turn least (go k)
           where
             j : ℕ
             j = wordAt net (nextFrom + i)
 
-            go : Looked terminal reach (wordAt net (lowerFrom + arcAt arcs i .head)) main met metres risks least (arcAt arcs i) h
+            go : Looked terminal reach (wordAt net (lowerFrom + arcAt arcs i .head)) main door met metres risks least (arcAt arcs i) h
                 → Left arcs terminal reach main met at metres risks i least ≡ Left arcs terminal reach main met at metres risks j least
             go (Looked.met-before e m) = left-met arcs terminal reach main met at metres risks i j least l (r .here l) next-arc m
             go (Looked.too-far e f) = left-far arcs terminal reach main met at metres risks i j least l (r .here l) next-arc _ bound-head f
-            go (Looked.no-better e f) = left-no-better arcs terminal reach main met at metres risks i j least l (r .here l) next-arc _ bound-head f
+            go (Looked.no-better e f) = left-no-better arcs terminal reach main met at metres risks i j least l (r .here l) next-arc _ bound-head doors f
             go (Looked.ends e n t f g b) = absurd (one e)
             go (Looked.leads e n t f a b c d) = absurd (two e)
 
         pub rest-ends : h .kind ≡ 1 → Rest bound (h .key) (wordAt net (nextFrom + i))
         rest-ends one = turn (h .key) (go k)
           where
-            go : Looked terminal reach (wordAt net (lowerFrom + arcAt arcs i .head)) main met metres risks least (arcAt arcs i) h
+            go : Looked terminal reach (wordAt net (lowerFrom + arcAt arcs i .head)) main door met metres risks least (arcAt arcs i) h
                 → Left arcs terminal reach main met at metres risks i least ≡ Left arcs terminal reach main met at metres risks (wordAt net (nextFrom + i)) (h .key)
             go (Looked.met-before e m) = absurd (omega arith)
             go (Looked.too-far e f) = absurd (omega arith)
@@ -209,7 +207,7 @@ module _ (net : List ℕ) (main at met metres risks : ℕ) where
             go (Looked.ends e n t f g b) =
                 let near : wordAt net (lowerFrom + arcAt arcs i .head) ≡ 0 = ap (λ (v : ℕ). wordAt net (lowerFrom + v)) t ∙ words .lower-terminal in
                 let m : metres + arcAt arcs i .metres + wordAt net (lowerFrom + arcAt arcs i .head) ≡ metres + arcAt arcs i .metres = omega arith in
-                let key : h .key ≡ standbyKey (onesIn 64 (bitAnd main (bitOr risks (arcAt arcs i .risks)))) (metres + arcAt arcs i .metres) = g ∙ ap (standbyKey _) m in
+                let key : h .key ≡ standbyKey (onesIn 64 (bitAnd main (bitOr risks (arcAt arcs i .risks)))) (metres + arcAt arcs i .metres) = g ∙ ap₂ standbyKey (shared-door doors i l risks t) m in
                 left-ends arcs terminal reach main met at metres risks i (wordAt net (nextFrom + i)) least l (r .here l) next-arc n t (omega arith) (omega arith)
                 ∙ ap (Left arcs terminal reach main met at metres risks (wordAt net (nextFrom + i))) (sym key)
             go (Looked.leads e n t f a b c d) = absurd (omega arith)
@@ -226,7 +224,7 @@ module _ (net : List ℕ) (main at met metres risks : ℕ) where
         pub rest-leads : h .kind ≡ 2 → Onward
         rest-leads two = go k
           where
-            go : Looked terminal reach (wordAt net (lowerFrom + arcAt arcs i .head)) main met metres risks least (arcAt arcs i) h → Onward
+            go : Looked terminal reach (wordAt net (lowerFrom + arcAt arcs i .head)) main door met metres risks least (arcAt arcs i) h → Onward
             go (Looked.met-before e m) = absurd (omega arith)
             go (Looked.too-far e f) = absurd (omega arith)
             go (Looked.no-better e f) = absurd (omega arith)

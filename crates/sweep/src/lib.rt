@@ -52,7 +52,8 @@ pub fn best_with(net: &[u64], metres: u64, risks: u64, best: u64) -> u64
     let bound = keys::bound_for(best, metres);
     let source = net::source(net);
     let met = sets::with(0, source as u8);
-    let key = standby::least_key(net, risks, source, met, 0, 0, bound);
+    let door = standby::door(net, risks);
+    let key = standby::least_key(net, risks, door, source, met, 0, 0, bound);
     if key < bound {
         return keys::pair_of(metres, key);
     }

@@ -1,4 +1,4 @@
--- `layout::lay_out` meets its contract: the arcs, the nodes and the request are written one after the other (`laid-out`). Assumes nothing.
+-- `layout::lay_out` meets its contract: the arcs, the nodes, the doors and the request are written one after the other (`laid-out`). Assumes nothing.
 use Prim.Native.Nat.{_≤_}
 use native.Mathlib.Omega.{arith}
 use borrow.Author.Needs.{needs}
@@ -20,12 +20,13 @@ chained-requires c κs =
 returns : tie.Need-returns
 returns c =
     let request = c .before .before in
-    let nodes = request .before .before .before .before .before in
+    let doors = request .before .before .before .before .before in
+    let nodes = doors .before .before .before .before in
     let arcs = nodes .before .before .before .before .before in
     let chained = arcs .before .before .before in
     let s = chained .before .before .before in
     let ends = s .pre .1 .0 in
-    laid-out (few s) (s .pre .0 .1) (ends .0) (ends .1) (ends .2) (ends .3) (s .pre .1 .1 .0) (chained .chained .ensures) (s .pre .1 .1 .1) (arcs .lay-arcs .ensures) (nodes .lay-nodes .ensures)
+    laid-out (few s) (s .pre .0 .1) (ends .0) (ends .1) (ends .2) (ends .3) (s .pre .1 .1 .0) (chained .chained .ensures) (s .pre .1 .1 .1) (arcs .lay-arcs .ensures) (nodes .lay-nodes .ensures) (doors .lay-doors .ensures)
     (rw (arcs-length (s .args .table .now)) (request .spread .ensures))
 
 pub lay-out-spec : {M : Type 1} → statement M
@@ -36,6 +37,7 @@ lay-out-spec =
     (search needs)
     (λ c κs. search needs)
     (search needs)
+    (λ c κs. search needs)
     (λ c κs. search needs)
     (search needs)
     (λ c κs. search needs)

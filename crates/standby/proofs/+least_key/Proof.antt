@@ -20,7 +20,7 @@ use Rattle.standby.proofs.+least_key.{statement}
 use Rattle.standby.proofs.+least_key.Tie.{close}
 
 abbrev μ-least-key : Measures 1 least-key-kinds.ps ℕ
-μ-least-key κs a = unmet 32 (a .1 .1 .1 .0)
+μ-least-key κs a = unmet 32 (a .1 .1 .1 .1 .0)
 
 abbrev least-key-at : ℕ → In 1 least-key-kinds.ps
 least-key-at t = and 1 least-key-kinds.ps (is 1 least-key-kinds.ps μ-least-key t) least-key.Pre
@@ -42,10 +42,10 @@ called t = (
 )
 
 abbrev least-key-Inv-loop : least-key-lts.InvT-loop
-least-key-Inv-loop net main at met metres risks bound n least₀ i₀ least i = (n ≡ length (arcsIn net)) × Rest net main at met metres risks bound least i
+least-key-Inv-loop net main door at met metres risks bound n least₀ i₀ least i = (n ≡ length (arcsIn net)) × Rest net main at met metres risks bound least i
 
 abbrev least-key-μ-loop : least-key-lts.MeasureT-loop
-least-key-μ-loop net main at met metres risks bound n least₀ i₀ least i = n - i
+least-key-μ-loop net main door at met metres risks bound n least₀ i₀ least i = n - i
 
 least-key-arc-count-requires : (t : ℕ) → least-key-lts.Need-arc-count-requires (called t) (least-key-at t) least-key.Post least-key-Inv-loop least-key-μ-loop
 least-key-arc-count-requires t c κs = c .before .pre .1 .words
@@ -63,7 +63,7 @@ least-key-loop-holds t c =
 least-key-look-requires : (t : ℕ) → least-key-lts.Need-look-requires (called t) (least-key-at t) least-key.Post least-key-Inv-loop least-key-μ-loop
 least-key-look-requires t c κs =
     let r = c .before .before .before .before .before .pre .1 in
-    (r .words, omega (arith, c .before .loop .inv .0), omega (arith, r .in-reach, r .words .reach-range))
+    (r .words, omega (arith, c .before .loop .inv .0), omega (arith, r .in-reach, r .words .reach-range), r .doors .most)
 
 least-key-loop-less : (t : ℕ) → least-key-lts.Need-loop-less (called t) (least-key-at t) least-key.Post least-key-Inv-loop least-key-μ-loop
 least-key-loop-less t c =
@@ -79,7 +79,7 @@ least-key-loop-again t c =
     let l = k .before .before .loop in
     let s = k .before .before .before .before .before .before in
     let a = s .args in
-    (l .inv .0, rw (k .look .ensures .0) (rest-ends (a .net .now) (a .main) (a .at) (a .met) (a .metres) (a .risks) (s .pre .1 .words) (l .inv .1) (omega (arith, l .inv .0)) (k .look .ensures .1) (c .if1 .taken)))
+    (l .inv .0, rw (k .look .ensures .0) (rest-ends (a .net .now) (a .main) (a .at) (a .met) (a .metres) (a .risks) (s .pre .1 .words) (l .inv .1) (omega (arith, l .inv .0)) (s .pre .1 .doors) (k .look .ensures .1) (c .if1 .taken)))
 
 least-key-least-key-requires : (t : ℕ) → least-key-lts.Need-least-key-requires (called t) (least-key-at t) least-key.Post least-key-Inv-loop least-key-μ-loop
 least-key-least-key-requires t c κs =
@@ -87,8 +87,8 @@ least-key-least-key-requires t c κs =
     let l = k .before .before .loop in
     let s = k .before .before .before .before .before .before in
     let a = s .args in
-    let o = rest-leads (a .net .now) (a .main) (a .at) (a .met) (a .metres) (a .risks) (s .pre .1 .words) (l .inv .1) (omega (arith, l .inv .0)) (k .look .ensures .1) (c .if2 .taken) in
-    (omega (arith, s .pre .0, o .fewer), record { words = s .pre .1 .words; node = o .node; onward = o .onward; in-reach = o .in-reach })
+    let o = rest-leads (a .net .now) (a .main) (a .at) (a .met) (a .metres) (a .risks) (s .pre .1 .words) (l .inv .1) (omega (arith, l .inv .0)) (s .pre .1 .doors) (k .look .ensures .1) (c .if2 .taken) in
+    (omega (arith, s .pre .0, o .fewer), record { words = s .pre .1 .words; doors = s .pre .1 .doors; node = o .node; onward = o .onward; in-reach = o .in-reach })
 
 least-key-loop-less-2 : (t : ℕ) → least-key-lts.Need-loop-less-2 (called t) (least-key-at t) least-key.Post least-key-Inv-loop least-key-μ-loop
 least-key-loop-less-2 t c =
@@ -104,7 +104,7 @@ least-key-loop-again-2 t c =
     let l = k .before .before .loop in
     let s = k .before .before .before .before .before .before in
     let a = s .args in
-    let o = rest-leads (a .net .now) (a .main) (a .at) (a .met) (a .metres) (a .risks) (s .pre .1 .words) (l .inv .1) (omega (arith, l .inv .0)) (k .look .ensures .1) (c .before .if2 .taken) in
+    let o = rest-leads (a .net .now) (a .main) (a .at) (a .met) (a .metres) (a .risks) (s .pre .1 .words) (l .inv .1) (omega (arith, l .inv .0)) (s .pre .1 .doors) (k .look .ensures .1) (c .before .if2 .taken) in
     (l .inv .0, rw (k .look .ensures .0) (o .gives (c .least-key .result) (c .least-key .ensures)))
 
 least-key-loop-less-3 : (t : ℕ) → least-key-lts.Need-loop-less-3 (called t) (least-key-at t) least-key.Post least-key-Inv-loop least-key-μ-loop
@@ -121,7 +121,7 @@ least-key-loop-again-3 t c =
     let l = k .before .before .loop in
     let s = k .before .before .before .before .before .before in
     let a = s .args in
-    (l .inv .0, rw (k .look .ensures .0) (rest-past (a .net .now) (a .main) (a .at) (a .met) (a .metres) (a .risks) (s .pre .1 .words) (l .inv .1) (omega (arith, l .inv .0)) (k .look .ensures .1) (c .before .before .if1 .left) (c .if2 .left)))
+    (l .inv .0, rw (k .look .ensures .0) (rest-past (a .net .now) (a .main) (a .at) (a .met) (a .metres) (a .risks) (s .pre .1 .words) (l .inv .1) (omega (arith, l .inv .0)) (s .pre .1 .doors) (k .look .ensures .1) (c .before .before .if1 .left) (c .if2 .left)))
 
 least-key-returns : (t : ℕ) → least-key-lts.Need-returns (called t) (least-key-at t) least-key.Post least-key-Inv-loop least-key-μ-loop
 least-key-returns t c =

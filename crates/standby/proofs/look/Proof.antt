@@ -71,8 +71,11 @@ risks-requires c κs = search needs
 shared-count-requires : tie.Need-shared-count-requires
 shared-count-requires c κs = search needs
 
-cast-standby-key : tie.Need-cast-standby-key
-cast-standby-key c = search needs
+cast-more : tie.Need-cast-more
+cast-more c = search needs
+
+more-requires : tie.Need-more-requires
+more-requires c κs = search needs
 
 standby-key-requires : tie.Need-standby-key-requires
 standby-key-requires c κs = search needs
@@ -83,13 +86,13 @@ passed-requires-3 c κs = search needs
 returns-3 : tie.Need-returns-3
 returns-3 c =
     let k = c .before .before in
-    let l = k .before .before .before .before .before in
+    let l = k .before .before .before .before .before .before in
     let h = l .before .before .before in
     let s = h .before .before .before .before in
     let lower = l .lower .ensures .0 ∙ ap (λ (v : ℕ). wordAt (s .args .net .now) (lowerFrom + v)) (h .before .head .ensures .0) in
     let a = arcAt (arcsIn (s .args .net .now)) (s .args .i) in
     let to = ap₂ (λ (x y : ℕ). s .args .metres + x + y) (l .before .metres .ensures .0) lower in
-    let key = key-read (s .args .main) (s .args .risks) (s .args .metres + a .metres + wordAt (s .args .net .now) (lowerFrom + a .head)) (k .standby-key .ensures) (k .before .shared-count .ensures .0) (k .before .before .risks .ensures) to in
+    let key = key-read (s .args .main) (s .args .door) (s .args .risks) (s .args .metres + a .metres + wordAt (s .args .net .now) (lowerFrom + a .head)) (k .standby-key .ensures) (k .before .more .ensures) (k .before .before .shared-count .ensures .0) (k .before .before .before .risks .ensures) to in
     (c .passed3 .ensures .1 ∙ h .before .before .next .ensures, Looked.no-better (c .passed3 .ensures .0) (omega (arith, key, c .before .if3 .taken)))
 
 terminal-requires : tie.Need-terminal-requires
@@ -98,18 +101,18 @@ terminal-requires c κs = search needs
 returns-4 : tie.Need-returns-4
 returns-4 c =
     let k = c .before .before .before in
-    let l = k .before .before .before .before .before in
+    let l = k .before .before .before .before .before .before in
     let h = l .before .before .before in
     let s = h .before .before .before .before in
     let lower = l .lower .ensures .0 ∙ ap (λ (v : ℕ). wordAt (s .args .net .now) (lowerFrom + v)) (h .before .head .ensures .0) in
     let a = arcAt (arcsIn (s .args .net .now)) (s .args .i) in
     let to = ap₂ (λ (x y : ℕ). s .args .metres + x + y) (l .before .metres .ensures .0) lower in
-    let key = key-read (s .args .main) (s .args .risks) (s .args .metres + a .metres + wordAt (s .args .net .now) (lowerFrom + a .head)) (k .standby-key .ensures) (k .before .shared-count .ensures .0) (k .before .before .risks .ensures) to in
+    let key = key-read (s .args .main) (s .args .door) (s .args .risks) (s .args .metres + a .metres + wordAt (s .args .net .now) (lowerFrom + a .head)) (k .standby-key .ensures) (k .before .more .ensures) (k .before .before .shared-count .ensures .0) (k .before .before .before .risks .ensures) to in
     let new = has-not-met (s .args .met) (h .before .head .ensures .0) (h .has .ensures) (l .before .before .if1 .left) in
     let there = sym (h .before .head .ensures .0) ∙ c .if4 .taken ∙ c .before .terminal .ensures .0 in
-    let near = k .before .before .before .before .reach .ensures .0 in (
+    let near = k .before .before .before .before .before .reach .ensures .0 in (
       h .before .before .next .ensures,
-      Looked.ends refl new there (omega (arith, lower, near, k .before .before .before .if2 .left, l .before .metres .ensures .0)) key (omega (arith, c .before .before .if3 .left)),
+      Looked.ends refl new there (omega (arith, lower, near, k .before .before .before .before .if2 .left, l .before .metres .ensures .0)) key (omega (arith, c .before .before .if3 .left)),
     )
 
 cast-with : tie.Need-cast-with
@@ -121,20 +124,20 @@ with-requires c κs = search needs
 returns-5 : tie.Need-returns-5
 returns-5 c =
     let k = c .before .before .before .before in
-    let l = k .before .before .before .before .before in
+    let l = k .before .before .before .before .before .before in
     let h = l .before .before .before in
     let s = h .before .before .before .before in
     let lower = l .lower .ensures .0 ∙ ap (λ (v : ℕ). wordAt (s .args .net .now) (lowerFrom + v)) (h .before .head .ensures .0) in
     let a = arcAt (arcsIn (s .args .net .now)) (s .args .i) in
     let to = ap₂ (λ (x y : ℕ). s .args .metres + x + y) (l .before .metres .ensures .0) lower in
-    let key = key-read (s .args .main) (s .args .risks) (s .args .metres + a .metres + wordAt (s .args .net .now) (lowerFrom + a .head)) (k .standby-key .ensures) (k .before .shared-count .ensures .0) (k .before .before .risks .ensures) to in
+    let key = key-read (s .args .main) (s .args .door) (s .args .risks) (s .args .metres + a .metres + wordAt (s .args .net .now) (lowerFrom + a .head)) (k .standby-key .ensures) (k .before .more .ensures) (k .before .before .shared-count .ensures .0) (k .before .before .before .risks .ensures) to in
     let new = has-not-met (s .args .met) (h .before .head .ensures .0) (h .has .ensures) (l .before .before .if1 .left) in
     let on : a .head ≡ wordAt (s .args .net .now) terminalAt → ⊥ = λ e. c .before .if4 .left (h .before .head .ensures .0 ∙ e ∙ sym (c .before .before .terminal .ensures .0)) in
-    let near = k .before .before .before .before .reach .ensures .0 in (
+    let near = k .before .before .before .before .before .reach .ensures .0 in (
       h .before .before .next .ensures,
-      Looked.leads refl new on (omega (arith, lower, near, k .before .before .before .if2 .left, l .before .metres .ensures .0)) (h .before .head .ensures .0)
+      Looked.leads refl new on (omega (arith, lower, near, k .before .before .before .before .if2 .left, l .before .metres .ensures .0)) (h .before .head .ensures .0)
           (c .with .ensures ∙ ap (with (s .args .met)) (h .before .head .ensures .0)) (ap (λ (x : ℕ). s .args .metres + x) (l .before .metres .ensures .0))
-          (ap (bitOr (s .args .risks)) (k .before .before .risks .ensures)),
+          (ap (bitOr (s .args .risks)) (k .before .before .before .risks .ensures)),
     )
 
 pub look-spec : {M : Type 1} → statement M
@@ -156,7 +159,8 @@ look-spec =
     returns-2
     risks-requires
     shared-count-requires
-    cast-standby-key
+    cast-more
+    more-requires
     standby-key-requires
     passed-requires-3
     returns-3

@@ -18,6 +18,9 @@ cast-with c = search needs
 with-requires : tie.Need-with-requires
 with-requires c κs = search needs
 
+door-requires : tie.Need-door-requires
+door-requires c κs = search needs
+
 add-least-key : tie.Need-add-least-key
 add-least-key c = search needs
 
@@ -27,7 +30,7 @@ least-key-requires c κs = search needs
 returns : tie.Need-returns
 returns c =
     let k = c .before in
-    let m = k .before .before in
+    let m = k .before .before .before in
     let s = m .before .before .before .before in
     wanted-main (s .args .net .now) (s .pre .0) (s .args .want) (m .before .source .ensures .0) (m .with .ensures) (s .args .risks) (m .before .before .if1 .taken) (k .least-key .ensures)
 
@@ -54,6 +57,7 @@ wanted-spec =
     source-requires
     cast-with
     with-requires
+    door-requires
     add-least-key
     least-key-requires
     returns
