@@ -1,4 +1,4 @@
--- The loop over the risks: what is left holds every risk of every way, and of those asked about no other; at the end it is `commonRisks`.
+-- What is left once risks are cleared or asked about: it holds every risk of every way, and of those decided no other; at the end it is `commonRisks`.
 -- Assumes nothing.
 use mathlib.Core.Path.{_≡_, refl, sym, ap, _∙_}
 use mathlib.Core.List.{List, [], _∷_, List·Memᴰ·not-nil}
@@ -53,6 +53,10 @@ module _ (arcs : List Arc) (source terminal reach : ℕ) where
     kept = λ b h o. n .kept b o (common-all [] b h (λ r m. absurd (List·Memᴰ·not-nil m)));
     decided = λ b h. absurd (omega arith);
   }
+
+  -- where all of it is known to lie on every way, nothing is left to ask
+  pub left-sure : (left : ℕ) → Left left 0 → ((b : ℕ) → bit left b ≡ 1 → OnEvery arcs source terminal reach b) → Left left 64
+  left-sure left s f = record { width = s .width; kept = s .kept; decided = λ b h. f b }
 
   pub left-on : (left r after : ℕ) → Left left r → Asked arcs source terminal reach left r after → after < 2 ^ 64 → Left after (r + 1)
   left-on left r after s a w = record {

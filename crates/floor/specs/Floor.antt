@@ -1,4 +1,4 @@
--- The risks on every way within reach, found by asking about one risk after the other. Assumes nothing.
+-- The risks on every way within reach: what a table of ways leaves of a set, and what asking about one risk after the other does. Assumes nothing.
 use mathlib.Core.Path.{_≡_}
 use mathlib.Core.Bool.{_&&_}
 use mathlib.Core.List.{List}
@@ -12,7 +12,7 @@ use Rattle.problem.specs.Routes.{metresOf, risksOf, Way}
 use Rattle.side.specs.declared.Side.{Side}
 use Rattle.side.specs.Side.{reachedAt, metresAt, risksAt}
 
--- only the risks of the way that the source's entry stands for, where that way is within reach
+-- only the risks of the source's entry, where its length is within reach
 unfoldable pub narrowed : (left : ℕ) → Side → (source reach : ℕ) → ℕ
 narrowed left s source reach =
     if reachedAt s source && leb (metresAt s source) reach then bitAnd left (risksAt s source) else left

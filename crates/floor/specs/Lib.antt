@@ -1,1 +1,2 @@
+pub mod Clearing
 pub mod Floor
