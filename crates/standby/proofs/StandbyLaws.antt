@@ -13,15 +13,16 @@ use borrow.Author.Tests.{le-leb, lt-leb, eqb-true, eqb-false}
 use Rattle.laws.specs.Sets.{bit, with, unmet}
 use Rattle.laws.proofs.SetLaws.{or-assoc, unmet-with}
 use Rattle.problem.specs.declared.Arc.{Arc}
-use Rattle.problem.specs.Table.{lastNode}
+use Rattle.problem.specs.Table.{lastNode, mostArcs}
 use Rattle.problem.specs.Routes.{arcAt, metresOf, risksOf, Way, opens, grow}
 use Rattle.problem.proofs.TableLaws.{sound-at}
 use Rattle.problem.proofs.RouteLaws.{opens-by, opens-new}
-use Rattle.problem.proofs.GrowthLaws.{fold-idle, fold-same, fold-there, grow-way, leftFrom, left-start, left-end, left-open, left-shut}
+use Rattle.problem.proofs.GrowthLaws.{fold-idle, fold-same, fold-there, grow-way, grow-source, leftFrom, left-start, left-end, left-open, left-shut}
+use Rattle.problem.proofs.ReplyLaws.{sound-heads}
 use Rattle.chain.specs.Chain.{Next}
 use Rattle.keys.specs.Keys.{standbyKey}
 use Rattle.keys.proofs.BoundLaws.{standbyKey-mono}
-use Rattle.net.specs.Net.{nextFrom, firstFrom, lowerFrom, terminalAt, reachAt, wordAt, arcsIn, Net}
+use Rattle.net.specs.Net.{nextFrom, firstFrom, lowerFrom, terminalAt, reachAt, sourceAt, wordAt, arcsIn, Net}
 use Rattle.net.proofs.NetLaws.{left-next}
 use Rattle.standby.specs.declared.Hop.{Hop}
 use Rattle.standby.specs.Standby.{offer, EveryDoor, sharedAtLeast, Looked}
@@ -245,3 +246,18 @@ module _ (net : List ℕ) (main at met metres risks : ℕ) where
                     → foldl (offer arcs reach main (h .metres) (h .risks)) least (grow arcs terminal (suc (unmet 32 (h .met))) (h .met) (h .head))
                     ≡ foldl (offer arcs reach main (metres + arcAt arcs i .metres) (bitOr risks (arcAt arcs i .risks))) least (grow arcs terminal (suc (unmet 32 (with met (arcAt arcs i .head)))) (with met (arcAt arcs i .head)) (arcAt arcs i .head))
                 same p q x y = rw (p, q, x, y)
+
+-- ---- from the source
+
+-- all standbys grow from it
+pub source-key : (net : List ℕ) → Net net → (main bound : ℕ) {at met key : ℕ} → at ≡ wordAt net sourceAt → met ≡ with 0 at
+    → key ≡ foldl (offer (arcsIn net) (wordAt net reachAt) main 0 0) bound (grow (arcsIn net) (wordAt net terminalAt) (suc (unmet 32 met)) met at)
+    → key ≡ foldl (offer (arcsIn net) (wordAt net reachAt) main 0 0) bound (grow (arcsIn net) (wordAt net terminalAt) mostArcs (with 0 (wordAt net sourceAt)) (wordAt net sourceAt))
+source-key net words main bound {at} {met} e f h =
+    h ∙ ap (foldl (offer (arcsIn net) (wordAt net reachAt) main 0 0) bound)
+    (same e (f ∙ ap (with 0) e) ∙ grow-source (arcsIn net) (wordAt net terminalAt) (sound-heads (arcsIn net) (words .sound)) (wordAt net sourceAt) (omega (arith, words .source-node)))
+  where
+    same : at ≡ wordAt net sourceAt → met ≡ with 0 (wordAt net sourceAt)
+        → grow (arcsIn net) (wordAt net terminalAt) (suc (unmet 32 met)) met at
+        ≡ grow (arcsIn net) (wordAt net terminalAt) (suc (unmet 32 (with 0 (wordAt net sourceAt)))) (with 0 (wordAt net sourceAt)) (wordAt net sourceAt)
+    same p q = rw (p, q)

@@ -4,24 +4,24 @@ ghost use mathlib.Core.List.{foldl};
 ghost use Prim.Native.Nat.{suc, _+_, _<_, _≤_, _^_, min, max};
 ghost use lib.Bits.{bitOr};
 ghost use lib.ListN.{length};
-ghost use Rattle.laws.specs.Sets.{unmet};
-ghost use Rattle.problem.specs.Table.{mostReach};
+ghost use Rattle.laws.specs.Sets.{with, unmet};
+ghost use Rattle.problem.specs.Table.{mostArcs, mostReach};
 ghost use Rattle.problem.specs.Routes.{arcAt, grow};
-ghost use Rattle.net.specs.Net.{Net, arcsIn, wordAt, nextFrom, headsFrom, lowerFrom, terminalAt, reachAt};
+ghost use Rattle.net.specs.Net.{Net, arcsIn, wordAt, nextFrom, headsFrom, lowerFrom, terminalAt, reachAt, sourceAt};
 ghost use Rattle.standby.specs.Standby.{offer, EveryDoor, Looked, Ready};
 
 const MOST_RISKS: u64 = 64;
 
 // An arc looked at: 0 passed over, 1 it ends a better standby, 2 one may go on from its head. Then the arc that comes next,
 // and what lies behind its head: the node, the nodes met, metres, risks, and the least key of what goes over it.
-pub struct Hop {
-    pub kind: u8,
-    pub next: u64,
-    pub head: u64,
-    pub met: u64,
-    pub metres: u64,
-    pub risks: u64,
-    pub key: u64,
+struct Hop {
+    kind: u8,
+    next: u64,
+    head: u64,
+    met: u64,
+    metres: u64,
+    risks: u64,
+    key: u64,
 }
 
 fn passed(next: u64) -> Hop
@@ -58,7 +58,7 @@ fn more(a: u64, b: u64) -> u64
 
 // The fewest risks that the main shares with a door. The last arc of a standby is a door, so every standby shares at least as many: a search
 // that knows it need not walk up to the terminal to learn it.
-pub fn door(net: &[u64], main: u64) -> u64
+fn door(net: &[u64], main: u64) -> u64
     requires { ⌜ Net (now net) ⌝ }
     ensures { λ r. ⌜ EveryDoor (arcsIn (now (net .entry))) (wordAt (now (net .entry)) terminalAt) main r ⌝ }
 {
@@ -77,7 +77,7 @@ pub fn door(net: &[u64], main: u64) -> u64
 }
 
 // What arc i is to the search.
-pub fn look(
+fn look(
     net: &[u64],
     i: u64,
     met: u64,
@@ -130,7 +130,7 @@ pub fn look(
 }
 
 // The least of `bound` and the keys of all standbys that go on from `at` with `metres` and `risks` behind them.
-pub fn least_key(
+fn least_key(
     net: &[u64],
     main: u64,
     door: u64,
@@ -156,4 +156,15 @@ pub fn least_key(
         }
     }
     least
+}
+
+// The least of `bound` and the keys of all standbys of a main with these risks.
+pub fn best_key(net: &[u64], main: u64, bound: u64) -> u64
+    requires { ⌜ Net (now net) ⌝ }
+    ensures { λ r. ⌜ r ≡ foldl (offer (arcsIn (now (net .entry))) (wordAt (now (net .entry)) reachAt) main 0 0) bound (grow (arcsIn (now (net .entry))) (wordAt (now (net .entry)) terminalAt) mostArcs (with 0 (wordAt (now (net .entry)) sourceAt)) (wordAt (now (net .entry)) sourceAt)) ⌝ }
+{
+    let source = net::source(net);
+    let met = sets::with(0, source as u8);
+    let door = door(net, main);
+    least_key(net, main, door, source, met, 0, 0, bound)
 }

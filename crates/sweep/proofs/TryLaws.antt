@@ -11,13 +11,11 @@ use lib.Count.{onesIn}
 use lib.Dec.{leb, ltb}
 use borrow.Author.Tests.{leb-true, ltb-true, ltb-false}
 use Rattle.laws.specs.Choosing.{if_then_else_}
-use Rattle.laws.specs.Sets.{with, unmet}
+use Rattle.laws.specs.Sets.{with}
 use Rattle.laws.proofs.SetLaws.{ones-le}
 use Rattle.problem.specs.declared.Arc.{Arc}
 use Rattle.problem.specs.Table.{mostArcs, mostReach}
 use Rattle.problem.specs.Routes.{metresOf, risksOf, grow}
-use Rattle.problem.proofs.GrowthLaws.{grow-source}
-use Rattle.problem.proofs.ReplyLaws.{sound-heads}
 use Rattle.keys.specs.Keys.{standbyKey, pairKey, boundFor, pairOf}
 use Rattle.keys.proofs.BoundLaws.{pairOf-key, bound-better, pairs-better}
 use Rattle.net.specs.Net.{terminalAt, reachAt, sourceAt, wordAt, arcsIn, Net}
@@ -108,18 +106,11 @@ module _ (net : List ℕ) (words : Net net) (x risks best : ℕ) (xs : x ≤ mos
   abbrev pub after : ℕ
   after = bestWith (arcsIn net) source (wordAt net terminalAt) reach x risks best
 
-  pub tried : (bound at met key : ℕ) → bound ≡ boundFor best x → at ≡ source → met ≡ with 0 at
-      → key ≡ foldl (offer (arcsIn net) reach risks 0 0) bound (grow (arcsIn net) (wordAt net terminalAt) (suc (unmet 32 met)) met at)
+  pub tried : (bound key : ℕ) → bound ≡ boundFor best x
+      → key ≡ foldl (offer (arcsIn net) reach risks 0 0) bound (grow (arcsIn net) (wordAt net terminalAt) mostArcs (with 0 source) source)
       → Beside (arcsIn net) reach x risks best (words .reach-range) xs key after
   unfolding bestWith
-  tried bound at met key e f g h =
-      let l = grow-source (arcsIn net) (wordAt net terminalAt) (sound-heads (arcsIn net) (words .sound)) source (omega (arith, words .source-node)) in
-      let from : key ≡ foldl (offer (arcsIn net) reach risks 0 0) (boundFor best x) (grow (arcsIn net) (wordAt net terminalAt) mostArcs (with 0 source) source) =
-      h ∙ same e (g ∙ ap (with 0) f) f ∙ ap (foldl (offer (arcsIn net) reach risks 0 0) (boundFor best x)) l
-      in
-      subst (λ (k : ℕ). Beside (arcsIn net) reach x risks best (words .reach-range) xs k after) (sym from) (beside-all (arcsIn net) reach x risks best (words .reach-range) xs (grow (arcsIn net) (wordAt net terminalAt) mostArcs (with 0 source) source))
-    where
-      same : bound ≡ boundFor best x → met ≡ with 0 source → at ≡ source
-          → foldl (offer (arcsIn net) reach risks 0 0) bound (grow (arcsIn net) (wordAt net terminalAt) (suc (unmet 32 met)) met at)
-          ≡ foldl (offer (arcsIn net) reach risks 0 0) (boundFor best x) (grow (arcsIn net) (wordAt net terminalAt) (suc (unmet 32 (with 0 source))) (with 0 source) source)
-      same p q r = rw (p, q, r)
+  tried bound key e h =
+      subst (λ (k : ℕ). Beside (arcsIn net) reach x risks best (words .reach-range) xs k after)
+      (sym (h ∙ ap (λ (b : ℕ). foldl (offer (arcsIn net) reach risks 0 0) b (grow (arcsIn net) (wordAt net terminalAt) mostArcs (with 0 source) source)) e))
+      (beside-all (arcsIn net) reach x risks best (words .reach-range) xs (grow (arcsIn net) (wordAt net terminalAt) mostArcs (with 0 source) source))

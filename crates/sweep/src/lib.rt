@@ -50,10 +50,7 @@ pub fn best_with(net: &[u64], metres: u64, risks: u64, best: u64) -> u64
     ensures { λ r. ⌜ r ≡ bestWith (arcsIn (now (net .entry))) (wordAt (now (net .entry)) sourceAt) (wordAt (now (net .entry)) terminalAt) (wordAt (now (net .entry)) reachAt) metres risks best ⌝ }
 {
     let bound = keys::bound_for(best, metres);
-    let source = net::source(net);
-    let met = sets::with(0, source as u8);
-    let door = standby::door(net, risks);
-    let key = standby::least_key(net, risks, door, source, met, 0, 0, bound);
+    let key = standby::best_key(net, risks, bound);
     if key < bound {
         return keys::pair_of(metres, key);
     }

@@ -139,19 +139,17 @@ module _ (net : List ℕ) (words : Net net) where
   source-low : source < 32
   source-low = omega (arith, words .source-node)
 
+  -- the test of a main, by the least key of its standbys
+  pub wanted-main : (w : Want) (risks : ℕ) {least : ℕ} → w .as_main ≡ true → least ≡ foldl (offer arcs (wordAt net reachAt) risks 0 0) (w .key + 1) (allIn net) → eqb least (w .key) ≡ wantedIn net w risks
+  unfolding isWanted
+  wanted-main w risks m l = rw (m, isWanted) (ap (λ (x : ℕ). eqb x (w .key)) l)
+
   module _ (w : Want) {at met : ℕ} (at-source : at ≡ source) (met-source : met ≡ with 0 at) where
     -- what a search from what was read as the source goes over is all there is
     grow-all : grow arcs terminal (suc (unmet 32 met)) met at ≡ allIn net
     grow-all =
         let low : (k : ℕ) → k < length arcs → arcAt arcs k .head < 32 = λ k h. omega (arith, sound-at arcs (words .sound) k h .head-node) in
         rw (met-source, at-source) (grow-source arcs terminal low source source-low)
-
-    -- the test of a main, by a search of its standbys
-    pub wanted-main : (risks : ℕ) {least : ℕ} → w .as_main ≡ true
-        → least ≡ foldl (offer arcs (wordAt net reachAt) risks 0 0) (w .key + 1) (grow arcs terminal (suc (unmet 32 met)) met at)
-        → eqb least (w .key) ≡ wantedIn net w risks
-    unfolding isWanted
-    wanted-main risks m l = rw (m, isWanted) (ap (λ (x : ℕ). eqb x (w .key)) (l ∙ ap (foldl (offer arcs (wordAt net reachAt) risks 0 0) (w .key + 1)) grow-all))
 
     module _ (t : Track) (held : Holds t noRoute) where
       pub ready-first : InRange w → Ready net w at met t

@@ -37,10 +37,7 @@ fn wanted(net: &[u64], want: Want, risks: u64) -> bool
     ensures { λ r. ⌜ r ≡ wantedIn (now (net .entry)) want risks ⌝ }
 {
     if want.as_main {
-        let source = net::source(net);
-        let met = sets::with(0, source as u8);
-        let door = standby::door(net, risks);
-        return standby::least_key(net, risks, door, source, met, 0, 0, want.key + 1) == want.key;
+        return standby::best_key(net, risks, want.key + 1) == want.key;
     }
     let shared = sets::shared_count(want.main, risks) as u64;
     keys::standby_key(shared, want.metres) == want.key
