@@ -1,8 +1,6 @@
 // The planner on the benchmark's cases: the entry of target/staticlib/libentry.a as a host calls it, checks and reply included.
+#include "../host/feshangul.h"
 #include "cases.h"
-
-extern "C" uint32_t feshangul_plan(const uint8_t *table, size_t table_len, uint8_t *reply, size_t reply_len, uint32_t source,
-                                   uint32_t terminal, uint32_t reach, uint32_t allowance);
 
 Answer plan(const Case &c) {
     uint8_t reply[REPLY];
