@@ -101,6 +101,16 @@ fn further() -> Vec<Worked> {
             "0: 0,2,0,{}; 1: 2,0,0,{}; 2: 2,1,7,{0}; 3: 0,1,7,{0}",
             "main [0,2]; standby [0,2]; shared 1; floor 1; ranked 1; total 14",
         ),
+        on(
+            "a partial route of equal length and more risks, none of them the main's, ranks before one with fewer",
+            "0: 0,2,100,{5}; 1: 0,2,100,{}; 2: 2,1,100,{}; 3: 0,1,150,{7}",
+            "settled; main [3]; standby [0,2]; shared 0; ranked 2; total 350",
+        ),
+        on(
+            "a first pair that shares nothing is not the best one",
+            "0: 0,1,1000,{0,2}; 1: 0,1,2000,{0}; 2: 0,1,2100,{2}; 3: 0,1,5000,{9}",
+            "settled; main [1]; standby [2]; shared 0; ranked 3; total 4100",
+        ),
         on("risks 0 and 63", "0: 0,1,1,{0,63}; 1: 0,1,2,{63}", "shared 1; floor 1; main [0]; standby [1]; ranked 2"),
     ]
 }
