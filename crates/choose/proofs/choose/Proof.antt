@@ -1,7 +1,11 @@
 -- `choose::choose` meets its contract: the numbers read off the best key say which two routes to look for, those found are the best pair
 -- (`pair-found`), and each end says what is ranked. Assumes nothing.
-use mathlib.Core.Path.{_≡_, refl, sym, ap, _∙_}
+use mathlib.Core.Path.{_≡_, refl, sym, _∙_}
+use Prim.Native.Nat.{ℕ}
 use native.Mathlib.Omega.{arith}
+use Rattle.problem.specs.Pairs.{ranked, verdict}
+use Rattle.plan.specs.Plan.{routesIn}
+use Rattle.choose.specs.Choose.{Chosen}
 use Rattle.choose.proofs.EndLaws.{readable, main-range, standby-range, pair-found, step-halved, step-counted, ranked-pair, ranked-small, length-settled, all-settled, end-stopped}
 use borrow.Author.Needs.{needs}
 use Rattle.choose.proofs.choose.Statement.{statement}
@@ -58,43 +62,43 @@ returns c =
       pair-is = pair-found (a .net .now) (s .pre .0) (a .allowance) (s .pre .1) (a .run) (s .pre .2) (k .read-off .result) (k .read-off .ensures) (f .first-route .result) (f .first-route .ensures .1) (g .first-route2 .result) (g .first-route2 .ensures .1) ∙ ranked-pair (a .net .now) (s .pre .0) (a .allowance) (s .pre .1) (a .run) (s .pre .2) (k .read-off .result) (k .read-off .ensures) (n .1) (n .2);
     }
 
-cast-t14 : tie.Need-cast-t14
-cast-t14 c = search needs
-
-returns-2 : tie.Need-returns-2
-returns-2 c =
-    let g = c .before .before .before .before .before .before in
+-- where all that was ranked is ranked in the reply
+as-ranked : (g : tie.After-first-route2) (word : ℕ) → let f = g .before .before in let s = f .before .before .before .before in let a = s .args in
+    (verdict (routesIn (a .net .now)) (a .allowance) ≡ word) × (ranked (routesIn (a .net .now)) (a .allowance) ≡ s .pre .2 .step)
+    → Chosen (a .net .now) (a .allowance) (record { verdict = word; ranked = a .run .tally .ranked; main = f .first-route .result .track; standby = g .first-route2 .result .track })
+as-ranked g word n =
     let f = g .before .before in
     let k = f .before in
     let s = k .before .before .before in
     let a = s .args in
-    let n = all-settled (a .net .now) (s .pre .0) (a .allowance) (s .pre .1) (a .run) (s .pre .2) (c .before .if2 .taken) in
     record {
       main-fit = f .first-route .ensures .0;
       standby-fit = g .first-route2 .ensures .0;
       verdict-is = sym (n .0);
       ranked-is = s .pre .2 .tally-is .ranked-is ∙ sym (n .1);
-      pair-is = pair-found (a .net .now) (s .pre .0) (a .allowance) (s .pre .1) (a .run) (s .pre .2) (k .read-off .result) (k .read-off .ensures) (f .first-route .result) (f .first-route .ensures .1) (g .first-route2 .result) (g .first-route2 .ensures .1) ∙ ranked-pair (a .net .now) (s .pre .0) (a .allowance) (s .pre .1) (a .run) (s .pre .2) (k .read-off .result) (k .read-off .ensures) (n .1) refl;
+      pair-is = pair-found (a .net .now) (s .pre .0) (a .allowance) (s .pre .1) (a .run) (s .pre .2) (k .read-off .result) (k .read-off .ensures) (f .first-route .result) (f .first-route .ensures .1) (g .first-route2 .result) (g .first-route2 .ensures .1)
+          ∙ ranked-pair (a .net .now) (s .pre .0) (a .allowance) (s .pre .1) (a .run) (s .pre .2) (k .read-off .result) (k .read-off .ensures) (n .1) refl;
     }
+
+cast-t14 : tie.Need-cast-t14
+cast-t14 c = search needs
+
+all-ranked : tie.Need-returns-2
+all-ranked c =
+    let g = c .before .before .before .before .before .before in
+    let s = g .before .before .before .before .before .before in
+    let a = s .args in
+    as-ranked g 0 (all-settled (a .net .now) (s .pre .0) (a .allowance) (s .pre .1) (a .run) (s .pre .2) (c .before .if2 .taken))
 
 cast-t15 : tie.Need-cast-t15
 cast-t15 c = search needs
 
-returns-3 : tie.Need-returns-3
-returns-3 c =
+stopped : tie.Need-returns-3
+stopped c =
     let g = c .before .before .before .before .before .before in
-    let f = g .before .before in
-    let k = f .before in
-    let s = k .before .before .before in
+    let s = g .before .before .before .before .before .before in
     let a = s .args in
-    let n = end-stopped (a .net .now) (s .pre .0) (a .allowance) (s .pre .1) (a .run) (s .pre .2) (omega (arith, s .pre .2 .end-range, c .before .if2 .left, c .before .before .before .if1 .left)) in
-    record {
-      main-fit = f .first-route .ensures .0;
-      standby-fit = g .first-route2 .ensures .0;
-      verdict-is = sym (n .0);
-      ranked-is = s .pre .2 .tally-is .ranked-is ∙ sym (n .1);
-      pair-is = pair-found (a .net .now) (s .pre .0) (a .allowance) (s .pre .1) (a .run) (s .pre .2) (k .read-off .result) (k .read-off .ensures) (f .first-route .result) (f .first-route .ensures .1) (g .first-route2 .result) (g .first-route2 .ensures .1) ∙ ranked-pair (a .net .now) (s .pre .0) (a .allowance) (s .pre .1) (a .run) (s .pre .2) (k .read-off .result) (k .read-off .ensures) (n .1) refl;
-    }
+    as-ranked g 1 (end-stopped (a .net .now) (s .pre .0) (a .allowance) (s .pre .1) (a .run) (s .pre .2) (omega (arith, s .pre .2 .end-range, c .before .if2 .left, c .before .before .before .if1 .left)))
 
 pub choose-spec : {M : Type 1} → statement M
 choose-spec =
@@ -107,6 +111,6 @@ choose-spec =
     cast-t13
     returns
     cast-t14
-    returns-2
+    all-ranked
     cast-t15
-    returns-3)
+    stopped)

@@ -1,6 +1,6 @@
 -- `plan::plan` meets its contract. The invariant: the tally is that of all routes shorter than `cur`, within the allowance and not met (`Going`).
 -- The measure is what is left of the reach, and within one place the window's width. Assumes nothing.
-use mathlib.Core.Path.{_≡_, sym, ap, _∙_}
+use mathlib.Core.Path.{_≡_, ap, _∙_}
 use mathlib.Core.Logic.{_⊎_, inl, inr}
 use borrow.Author.Needs.{needs}
 use Prim.Native.Nat.{ℕ, _+_, _*_, _-_, _≤_, _<_}
@@ -66,26 +66,28 @@ returns c =
     let a = s .args in
     ended-turn (a .net .now) (s .pre .0) (a .allowance) (a .floor) (s .pre .1) (w .try-window .result) (w .try-window .ensures) (c .if1 .taken)
 
+-- after a window that says to go on
+going : (w : tie.After-try-window Inv-loop μ-loop) → w .try-window .result .end ≡ 3
+    → let n = w .before in let l = n .before .before .loop in let a = n .before .before .before .before .before .before .before .before .before .args in let r = w .try-window .result in
+    Going (a .net .now) (a .allowance) (a .floor) (r .tally) (r .cur) (r .width) × ((l .cur < r .cur) ⊎ ((r .cur ≡ l .cur) × (r .width < n .narrow .result .width)))
+going w on =
+    let n = w .before in
+    let l = n .before .before .loop in
+    let s = n .before .before .before .before .before .before .before .before .before in
+    let a = s .args in
+    let less = going-narrower (a .net .now) (s .pre .0) (a .allowance) (a .floor) (s .pre .1) (l .inv .1) (n .narrow .ensures) in
+    going-on (a .net .now) (s .pre .0) (a .allowance) (a .floor) (s .pre .1) (less .width-range) less (w .try-window .result) (w .try-window .ensures) on
+
 loop-less : tie.Need-loop-less Inv-loop μ-loop
 loop-less c =
     let w = c .before .before .before in
     let n = w .before in
     let l = n .before .before .loop in
-    let s = w .before .before .before .before .before .before .before .before .before .before in
-    let a = s .args in
-    let less = going-narrower (a .net .now) (s .pre .0) (a .allowance) (a .floor) (s .pre .1) (l .inv .1) (n .narrow .ensures) in
-    let g = going-on (a .net .now) (s .pre .0) (a .allowance) (a .floor) (s .pre .1) (less .width-range) less (w .try-window .result) (w .try-window .ensures) (c .if1 .left) in
+    let g = going w (c .if1 .left) in
     falls (w .before .before .before .before .before .before .before .before .reach .result) (l .cur) (l .width) (n .narrow .result .width) (w .try-window .result .cur) (w .try-window .result .width) (n .before .loop-test .taken) (n .narrow .ensures) (g .0 .width-range) (g .1)
 
 loop-again : tie.Need-loop-again Inv-loop μ-loop
-loop-again c =
-    let w = c .before .before .before in
-    let n = w .before in
-    let l = n .before .before .loop in
-    let s = w .before .before .before .before .before .before .before .before .before .before in
-    let a = s .args in
-    let less = going-narrower (a .net .now) (s .pre .0) (a .allowance) (a .floor) (s .pre .1) (l .inv .1) (n .narrow .ensures) in
-    (l .inv .0, going-on (a .net .now) (s .pre .0) (a .allowance) (a .floor) (s .pre .1) (less .width-range) less (w .try-window .result) (w .try-window .ensures) (c .if1 .left) .0)
+loop-again c = let w = c .before .before .before in (w .before .before .before .loop .inv .0, going w (c .if1 .left) .0)
 
 returns-2 : tie.Need-returns-2 Inv-loop μ-loop
 returns-2 c =
