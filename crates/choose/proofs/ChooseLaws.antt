@@ -1,21 +1,17 @@
 -- From a step's tally to the reply: counting below a length, which main and which standby have the best pair's key, and what is ranked. Assumes nothing.
-use mathlib.Core.Path.{_≡_, refl, sym, ap, ap₂, _∙_, subst}
-use mathlib.Core.Logic.{_⊎_, inl, inr, _↔_}
-use mathlib.Core.Bool.{Bool, true, false, true≢false, false≢true}
-use mathlib.Core.List.{List, [], _∷_, _++_, foldl, List·Memᴰ, List·Memᴰ·head, List·Memᴰ·tail, List·Memᴰ·append-cases, List·Memᴰ·cases-cons, Memᴰ·append-left, Memᴰ·append-right}
-use Prim.Native.Nat.{ℕ, zero, suc, _+_, _*_, _-_, _/_, _%_, _^_, _≤_, _<_, min, max}
+use mathlib.Core.Path.{_≡_, refl, sym, ap, _∙_}
+use mathlib.Core.Bool.{Bool, true, false}
+use mathlib.Core.List.{List}
+use Prim.Native.Nat.{ℕ, suc, _-_, _≤_}
 use native.Mathlib.Omega.{arith}
-use lib.Bits.{bitAnd}
-use lib.Count.{onesIn}
-use lib.Dec.{eqb, ltb, leb}
-use lib.ListN.{length, getD, take}
-use borrow.Author.Tests.{ltb-true, ltb-false, lt-ltb, le-ltb, le-leb, lt-leb, leb-true, leb-false, eqb-true, eq-eqb}
-use Rattle.laws.specs.Choosing.{keep, lexBy, Pairwise}
+use lib.Dec.{ltb, leb}
+use lib.ListN.{length}
+use borrow.Author.Tests.{lt-ltb, le-ltb, leb-true, leb-false}
 use Rattle.laws.proofs.ListLaws.{keep-none}
-use Rattle.problem.specs.Routes.{Route, routeOf, metresOf, risksOf, within, precedes, ranking}
-use Rattle.problem.specs.Pairs.{Pair, noRoute, sharedCount, total, best, settledByLength, leastSettled, ranked, verdict}
-use Rattle.problem.proofs.WindowLaws.{count, shorter, half}
-use Rattle.net.specs.Net.{terminalAt, reachAt, sourceAt, wordAt, arcsIn, Net}
+use Rattle.problem.specs.Routes.{Route, within}
+use Rattle.problem.specs.Pairs.{ranked}
+use Rattle.problem.proofs.WindowLaws.{count, shorter}
+use Rattle.net.specs.Net.{terminalAt, reachAt, sourceAt, wordAt, arcsIn}
 use Rattle.sweep.specs.declared.Tally.{Tally}
 use Rattle.sweep.specs.declared.Window.{Window}
 use Rattle.sweep.proofs.FoldLaws.{keep-same}

@@ -1,28 +1,24 @@
 -- What a run's end says of the reply: its verdict and what is ranked. Assumes nothing.
 use mathlib.Core.Path.{_≡_, refl, sym, ap, ap₂, _∙_, subst}
-use mathlib.Core.Logic.{_⊎_, inl, inr}
-use mathlib.Core.Bool.{Bool, true, false, _&&_, true≢false, false≢true}
+use mathlib.Core.Bool.{Bool, true, false, true≢false}
 use mathlib.Core.List.{List}
-use Prim.Native.Nat.{ℕ, zero, suc, _+_, _*_, _-_, _/_, _%_, _^_, _≤_, _<_, min, max}
+use Prim.Native.Nat.{ℕ, _+_, _*_, _-_, _/_, _%_, _^_, _≤_, _<_}
 use native.Mathlib.Omega.{arith}
-use lib.Dec.{eqb, ltb, leb}
+use lib.Dec.{eqb, ltb}
 use lib.ListN.{length, getD}
-use borrow.Author.Tests.{ltb-true, ltb-false, eqb-true, eqb-false, eq-eqb, ne-eqb}
+use borrow.Author.Tests.{ltb-true, ltb-false, eqb-true, eqb-false}
 use Rattle.laws.specs.Choosing.{keep}
 use Rattle.laws.proofs.ListLaws.{getD-mem}
-use Rattle.laws.proofs.FirstLaws.{Least}
-use Rattle.problem.specs.Table.{mostReach, mostAllowance}
+use Rattle.problem.specs.Table.{mostAllowance}
 use Rattle.problem.specs.Routes.{Route, routeOf}
-use Rattle.problem.specs.Pairs.{Pair, noRoute, sharedCount, total, best, settledByLength, settled, leastSettled, ranked, verdict}
+use Rattle.problem.specs.Pairs.{Pair, noRoute, sharedCount, total, best, settledByLength, leastSettled, ranked, verdict}
 use Rattle.problem.proofs.PairLaws.{pair, Step}
-use Rattle.problem.proofs.SettleLaws.{ByLength, by-length, settled-by, least-settled, least-settled-inside}
+use Rattle.problem.proofs.SettleLaws.{ByLength, by-length, settled-by, least-settled}
 use Rattle.problem.proofs.CallLaws.{verdict-settled, verdict-stopped}
 use Rattle.problem.proofs.WindowLaws.{count, shorter, half, main-half, not-yet, last-only, counted, counted-shorter, counted-half, counted-best}
-use Rattle.keys.specs.Keys.{standbyKey, pairKey}
+use Rattle.keys.specs.Keys.{standbyKey}
 use Rattle.keys.proofs.ChoiceLaws.{pairKey-metres}
-use Rattle.net.specs.Net.{terminalAt, reachAt, sourceAt, wordAt, arcsIn, Net}
-use Rattle.sweep.specs.declared.Tally.{Tally}
-use Rattle.sweep.proofs.StepLaws.{Stepped}
+use Rattle.net.specs.Net.{arcsIn, Net}
 use Rattle.plan.specs.declared.Run.{Run}
 use Rattle.plan.specs.Plan.{routesIn, Ended}
 use Rattle.plan.proofs.PlanLaws.{key-shared, key-total}

@@ -1,14 +1,14 @@
 -- The best pair's own routes, from its numbers: the main is the first route of its length, in depth-first order, whose best standby makes the best
 -- pair's key; the standby is the first of its length that makes that key with the main. Assumes nothing.
 use mathlib.Core.Path.{_≡_, refl, sym, ap, ap₂, _∙_, subst}
-use mathlib.Core.Logic.{_⊎_, inl, inr, _↔_}
-use mathlib.Core.Bool.{Bool, true, false, true≢false, false≢true}
-use mathlib.Core.List.{List, [], _∷_, _++_, map, map-append, foldl, List·Memᴰ, List·Memᴰ·head, List·Memᴰ·tail, List·Memᴰ·append-cases, List·Memᴰ·cases-cons, Memᴰ·append-right, Memᴰ·map, Memᴰ·of-map, Memᴰ·cast}
-use Prim.Native.Nat.{ℕ, zero, suc, _+_, _*_, _-_, _/_, _%_, _^_, _≤_, _<_}
+use mathlib.Core.Logic.{_⊎_, inl, inr}
+use mathlib.Core.Bool.{Bool, true, false, true≢false}
+use mathlib.Core.List.{List, [], _∷_, _++_, map, map-append, foldl, List·Memᴰ, List·Memᴰ·head, List·Memᴰ·append-cases, List·Memᴰ·cases-cons, Memᴰ·append-right, Memᴰ·map, Memᴰ·of-map, Memᴰ·cast}
+use Prim.Native.Nat.{ℕ, _+_, _*_, _-_, _/_, _%_, _≤_, _<_}
 use native.Mathlib.Omega.{arith}
 use lib.Bits.{bitAnd}
 use lib.Count.{onesIn}
-use lib.Dec.{eqb, ltb, leb}
+use lib.Dec.{eqb, ltb}
 use lib.ListN.{length, getD, take, length-append}
 use lib.Seq.{getD-take, getD-append-add, getD-append-seam}
 use borrow.Author.Tests.{ltb-true, ltb-false, lt-ltb, le-leb, lt-leb, eqb-true, eqb-false, eq-eqb}
@@ -20,7 +20,7 @@ use Rattle.laws.proofs.SortLaws.{Strict, sort-mem, place-unique}
 use Rattle.laws.proofs.SetLaws.{digit, ones-le}
 use Rattle.problem.specs.declared.Arc.{Arc}
 use Rattle.problem.specs.Table.{mostArcs, mostReach}
-use Rattle.problem.specs.Routes.{Route, routeOf, routesFrom, metresOf, risksOf, within, precedes, grow, ranking}
+use Rattle.problem.specs.Routes.{Route, routeOf, routesFrom, metresOf, within, precedes, ranking}
 use Rattle.problem.specs.Pairs.{Pair, noRoute, sharedRisks, sharedCount, total, best}
 use Rattle.problem.proofs.RankingLaws.{key-total, precedes-weak, ranking-strict, ranking-out, ranking-beginning}
 use Rattle.problem.proofs.PairLaws.{pair, Step, best-mem, best-main}
@@ -28,14 +28,14 @@ use Rattle.problem.proofs.GrowthOrder.{grow-in-order, precedes-same-length}
 use Rattle.problem.proofs.WindowLaws.{count, shorter, place-le}
 use Rattle.keys.specs.Keys.{standbyKey, pairKey, keyOf, boundFor, pairOf}
 use Rattle.keys.proofs.BoundLaws.{pairOf-key}
-use Rattle.keys.proofs.ChoiceLaws.{Fits, InReach, pair-fits, pairKey-unique, keyOf-unique, Chosen, best-key-least, best-by-key}
+use Rattle.keys.proofs.ChoiceLaws.{pair-fits, pairKey-unique, keyOf-unique, best-key-least, best-by-key}
 use Rattle.net.specs.Net.{terminalAt, reachAt, sourceAt, wordAt, arcsIn, Net}
 use Rattle.standby.specs.Standby.{offer}
 use Rattle.sweep.specs.declared.Tally.{Tally}
-use Rattle.sweep.specs.Sweep.{bestWith, offerPair}
+use Rattle.sweep.specs.Sweep.{bestWith}
 use Rattle.sweep.proofs.FoldLaws.{FirstOf, Given, count-cons}
 use Rattle.sweep.proofs.MainLaws.{between, between-by, window-in-order}
-use Rattle.sweep.proofs.TryLaws.{Beside, kept, better, beside-all, beside-made, Made}
+use Rattle.sweep.proofs.TryLaws.{Beside, kept, better, beside-all, beside-made}
 use Rattle.sweep.proofs.SweptLaws.{best-with}
 use Rattle.sweep.proofs.StepLaws.{Stepped}
 use Rattle.trace.specs.declared.Want.{Want}

@@ -6,16 +6,12 @@ use trace::Want;
 use track::Track;
 ghost use mathlib.Core.Path.{_≡_};
 ghost use mathlib.Core.Bool.{true, false};
-ghost use Prim.Native.Nat.{suc, _+_, _*_, _-_, _/_, _%_, _<_, _≤_, _^_, max};
-ghost use lib.ListN.{length};
-ghost use Rattle.problem.specs.Table.{mostReach, mostAllowance};
-ghost use Rattle.problem.specs.Pairs.{best, leastSettled};
+ghost use Prim.Native.Nat.{_+_, _-_, _/_, _%_, _≤_};
+ghost use Rattle.problem.specs.Table.{mostAllowance};
+ghost use Rattle.problem.specs.Pairs.{best};
 ghost use Rattle.problem.proofs.WindowLaws.{count, shorter};
-ghost use Rattle.keys.specs.Keys.{standbyKey};
-ghost use Rattle.net.specs.Net.{Net, arcsIn, wordAt, reachAt};
-ghost use Rattle.track.specs.Track.{routeIn, Fit};
-ghost use Rattle.trace.specs.Trace.{wantedIn, allIn, soughtIn, Outcome, InRange};
-ghost use Rattle.plan.specs.Plan.{routesIn, Planning, Ended};
+ghost use Rattle.net.specs.Net.{Net, wordAt, reachAt};
+ghost use Rattle.plan.specs.Plan.{routesIn, Ended};
 ghost use Rattle.choose.specs.Choose.{Chosen, Readable, ReadOff, stepBy, Halved};
 
 // 0 settled or 1 stopped, how many routes were ranked, and the pair.
@@ -51,11 +47,11 @@ fn count_shorter(net: &[u64], metres: u64, cap: u64) -> u64
 }
 
 // The best pair's numbers, read off its key: the standby's key, the main's metres and the standby's.
-pub struct Numbers {
-    pub key: u64,
-    pub main: u64,
-    pub standby: u64,
-    pub total: u64,
+struct Numbers {
+    key: u64,
+    main: u64,
+    standby: u64,
+    total: u64,
 }
 
 fn read_off(best: u64) -> Numbers

@@ -1,7 +1,7 @@
 -- The promises, restated of calls of the entry: what the numbers returned and the bytes in the buffers must be, and what a second call with another allowance must give.
 -- `Called` is what the contract of `feshangul_plan` says of one call. Assumes nothing.
-use mathlib.Core.Path.{_≡_, refl, sym, ap, ap₂, _∙_, subst}
-use mathlib.Core.List.{List, _++_}
+use mathlib.Core.Path.{_≡_, sym, ap, ap₂, _∙_, subst}
+use mathlib.Core.List.{List}
 use Prim.Native.Nat.{ℕ, _+_, _≤_, _<_}
 use native.Mathlib.Omega.{arith}
 use lib.Bits.{bitAnd}

@@ -1,5 +1,5 @@
 -- From the parts of a plan to the answer of the definitions. Assumes nothing.
-use mathlib.Core.Path.{_≡_, refl, sym, ap, ap₂, _∙_, subst}
+use mathlib.Core.Path.{_≡_, refl, sym, ap, _∙_, subst}
 use mathlib.Core.Logic.{_⊎_, inl, inr}
 use mathlib.Core.Bool.{true, false, _||_, true≢false, false≢true}
 use mathlib.Core.List.{List, [], _∷_, _++_, List·Memᴰ, List·Memᴰ·head, List·Memᴰ·not-nil}
@@ -11,14 +11,14 @@ use lib.Dec.{ltb}
 use lib.ListN.{length, drop}
 use borrow.Author.Tests.{le-ltb}
 use Rattle.problem.specs.declared.Arc.{Arc}
-use Rattle.problem.specs.Table.{mostReach, mostAllowance, replySize, arcsOf, allSound}
+use Rattle.problem.specs.Table.{mostReach, mostAllowance, replySize, allSound}
 use Rattle.problem.specs.Routes.{Route, metresOf, risksOf, ranking}
-use Rattle.problem.specs.Pairs.{Pair, best, commonRisks, floor, ranked, verdict}
+use Rattle.problem.specs.Pairs.{Pair, commonRisks, floor, ranked, verdict}
 use Rattle.problem.specs.Reply.{Request, Answer, refuse, after, replyOf, refusal, planned, answerUnless, answer}
 use Rattle.problem.proofs.RankingLaws.{ranking-out}
 use Rattle.problem.proofs.PairLaws.{best-mem, best-main}
 use Rattle.problem.proofs.WayLaws.{FreeWay, way-bettered}
-use Rattle.problem.proofs.ReplyLaws.{Passed, routesOf, chosen, refusal-passed, route-range, sound-heads}
+use Rattle.problem.proofs.ReplyLaws.{Passed, routesOf, route-range, sound-heads}
 use Rattle.problem.proofs.CallLaws.{WithPair, some-route, reply-size, pair-step}
 use Rattle.side.specs.declared.Side.{Side}
 use Rattle.side.specs.Side.{SideTable, reachedAt, metresAt}

@@ -6,7 +6,7 @@ use mathlib.Core.Path.{_≡_}
 use lib.ListN.{length}
 use Rattle.problem.specs.Routes.{Route}
 use Rattle.problem.specs.Pairs.{Pair, best, floor, ranked, verdict}
-use Rattle.problem.specs.Reply.{Request, Answer, answer}
+use Rattle.problem.specs.Reply.{Answer, answer}
 use Rattle.track.specs.Track.{routeIn, Fit}
 use Rattle.entry.specs.declared.Made.{Made}
 

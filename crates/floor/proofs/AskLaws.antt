@@ -7,7 +7,6 @@ use Prim.Native.Nat.{ℕ, _≤_, _<_, min}
 use native.Mathlib.Omega.{arith}
 use lib.Bits.{bitAnd}
 use lib.Dec.{eqb, leb}
-use lib.ListN.{getD}
 use borrow.Author.Tests.{eqb-true, eqb-false, eq-eqb, le-leb, lt-leb, leb-true, leb-false}
 use Rattle.laws.specs.Sets.{bit, with}
 use Rattle.laws.proofs.SetLaws.{digit, bit-and, bit-empty, bit-le-one, bit-single, bits-ext}

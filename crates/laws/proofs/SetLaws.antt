@@ -1,7 +1,7 @@
 -- Sets of nodes or of risks as numbers, at any width: bits of unions, intersections and one more element; how many elements. Assumes nothing.
 use mathlib.Core.Path.{_≡_, refl, sym, ap, _∙_}
 use mathlib.Core.Bool.{Bool, true, false}
-use Prim.Native.Nat.{ℕ, zero, suc, _+_, _-_, _*_, _/_, _%_, _^_, _≤_, _<_, min, max}
+use Prim.Native.Nat.{ℕ, zero, suc, _+_, _-_, _/_, _%_, _^_, _≤_, _<_, min, max}
 use native.Mathlib.Nat.{le-refl, lt-of-lt-of-le, pow-suc, pow-succ', div-one, div-div-eq-div-mul, div-lt-iff-lt-mul, not-suc-le-zero}
 use native.Mathlib.Omega.{arith}
 use lib.Arith.{lt-one}

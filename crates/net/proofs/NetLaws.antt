@@ -1,12 +1,12 @@
 -- The arcs that the words say, field by field, and what a search over the words has left: from one arc of a chain to the next nothing is lost. Assumes nothing.
-use mathlib.Core.Path.{_≡_, refl, sym, ap, _∙_}
-use mathlib.Core.List.{List, [], _∷_, foldl}
-use Prim.Native.Nat.{ℕ, zero, suc, _+_, _≤_, _<_}
-use native.Mathlib.Nat.{le-of-suc-le-suc, not-suc-le-zero, add-zero}
+use mathlib.Core.Path.{_≡_, refl, sym, ap}
+use mathlib.Core.List.{List, foldl}
+use Prim.Native.Nat.{ℕ, zero, suc, _+_, _<_}
+use native.Mathlib.Nat.{le-of-suc-le-suc, not-suc-le-zero}
 use native.Mathlib.Omega.{arith}
-use lib.ListN.{length, drop}
+use lib.ListN.{length}
 use Rattle.problem.specs.declared.Arc.{Arc}
-use Rattle.problem.specs.Routes.{arcAt, sprout, grow}
+use Rattle.problem.specs.Routes.{arcAt, grow}
 use Rattle.problem.proofs.GrowthLaws.{leftFrom}
 use Rattle.chain.specs.Chain.{Next}
 use Rattle.chain.proofs.ChainLaws.{sprout-next}

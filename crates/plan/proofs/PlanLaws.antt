@@ -1,27 +1,26 @@
 -- The loop over windows: from the source all routes are met; the length test on a tally is that of its step; what one turn does. Assumes nothing.
 use mathlib.Core.Path.{_≡_, refl, sym, ap, _∙_, subst}
 use mathlib.Core.Logic.{_⊎_, inl, inr}
-use mathlib.Core.Bool.{Bool, true, false, _&&_, true≢false, false≢true}
+use mathlib.Core.Bool.{Bool, true, false, false≢true}
 use mathlib.Core.List.{List, List·Memᴰ}
-use Prim.Native.Nat.{ℕ, zero, suc, _+_, _*_, _-_, _/_, _%_, _^_, _≤_, _<_, min}
+use Prim.Native.Nat.{ℕ, zero, suc, _+_, _-_, _/_, _%_, _^_, _≤_, _<_, min}
 use native.Mathlib.Omega.{arith}
-use lib.Dec.{eqb, leb}
+use lib.Dec.{eqb}
 use borrow.Author.Tests.{lt-ltb, ne-eqb}
 use lib.ListN.{length, getD}
-use Rattle.laws.specs.Choosing.{keep}
 use Rattle.laws.specs.Sets.{with, unmet}
 use Rattle.laws.proofs.ListLaws.{getD-mem, length-keep}
 use Rattle.laws.proofs.SetLaws.{ones-le}
 use Rattle.problem.specs.Table.{mostArcs, mostReach}
-use Rattle.problem.specs.Routes.{Route, routeOf, metresOf, within, grow, ranking}
-use Rattle.problem.specs.Pairs.{Pair, noRoute, sharedCount, total, best, commonRisks, floor, settledByLength}
+use Rattle.problem.specs.Routes.{Route, routeOf, metresOf, within, grow}
+use Rattle.problem.specs.Pairs.{noRoute, sharedCount, total, best, commonRisks, floor, settledByLength}
 use Rattle.problem.proofs.GrowthLaws.{grow-source, grow-way}
 use Rattle.problem.proofs.ReplyLaws.{sound-heads}
 use Rattle.problem.proofs.RankingLaws.{Listed, ranking-out}
-use Rattle.problem.proofs.PairLaws.{pair, Step, best-main, best-mem}
+use Rattle.problem.proofs.PairLaws.{Step, best-main, best-mem}
 use Rattle.problem.proofs.WindowLaws.{count, shorter}
 use Rattle.keys.specs.Keys.{pairKey, keyOf, noKey}
-use Rattle.keys.proofs.ChoiceLaws.{Fits, InReach, ranking-in-reach, pair-fits}
+use Rattle.keys.proofs.ChoiceLaws.{InReach, ranking-in-reach, pair-fits}
 use Rattle.net.specs.Net.{lowerFrom, terminalAt, reachAt, sourceAt, wordAt, arcsIn, Net}
 use Rattle.sweep.specs.declared.Tally.{Tally}
 use Rattle.sweep.specs.declared.Window.{Window}

@@ -7,8 +7,7 @@ use sweep::Window;
 ghost use mathlib.Core.Path.{_≡_};
 ghost use mathlib.Core.Bool.{false};
 ghost use mathlib.Core.List.{List, List·Memᴰ};
-ghost use Prim.Native.Nat.{ℕ, _+_, _*_, _<_, _≤_, _^_, min};
-ghost use lib.ListN.{length};
+ghost use Prim.Native.Nat.{ℕ, _+_, _*_, _<_, _≤_, min};
 ghost use Rattle.problem.specs.Table.{mostReach, mostAllowance};
 ghost use Rattle.problem.specs.Routes.{metresOf};
 ghost use Rattle.problem.specs.Pairs.{floor};
@@ -16,7 +15,7 @@ ghost use Rattle.net.specs.Net.{Net, arcsIn, wordAt, terminalAt, reachAt, sourc
 ghost use Rattle.sweep.proofs.MainLaws.{grown};
 ghost use Rattle.sweep.proofs.SweptLaws.{sweptTally};
 ghost use Rattle.sweep.proofs.StepLaws.{noTally};
-ghost use Rattle.plan.specs.Plan.{routesIn, metBy, notOver, endBy, Turning, Turned, Planning, Ended};
+ghost use Rattle.plan.specs.Plan.{metBy, notOver, endBy, Turning, Turned, Planning, Ended};
 
 // How planning ends: 0 settled by length, 1 all routes are ranked, 2 the allowance has ended.
 pub struct Run {
@@ -43,7 +42,7 @@ fn no_tally() -> Tally
 }
 
 // The length test.
-pub fn is_met(t: Tally, floor: u64) -> bool
+fn is_met(t: Tally, floor: u64) -> bool
     requires { ⌜ t .last ≤ mostReach ⌝ }
     ensures { λ r. ⌜ r ≡ metBy t floor ⌝ }
 {
@@ -71,11 +70,11 @@ pub fn one_window(net: &[u64], w: Window, t: Tally) -> Swept
 }
 
 // One turn of the loop: the tally of all routes shorter than `cur`, and how wide the next window is to be. `end` as in a run, or 3 to go on.
-pub struct Turn {
-    pub tally: Tally,
-    pub cur: u64,
-    pub width: u64,
-    pub end: u8,
+struct Turn {
+    tally: Tally,
+    cur: u64,
+    width: u64,
+    end: u8,
 }
 
 fn smaller(a: u64, b: u64) -> u64

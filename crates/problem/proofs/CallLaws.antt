@@ -2,15 +2,14 @@
 use mathlib.Core.Path.{_≡_, refl, sym, ap, ap₂, _∙_, subst}
 use mathlib.Core.Bool.{Bool, true, false}
 use mathlib.Core.Logic.{_↔_}
-use mathlib.Core.List.{List, [], _∷_, _++_, List·Memᴰ, List·Memᴰ·not-nil}
-use Prim.Native.Nat.{ℕ, zero, suc, _+_, _≤_, _<_, min}
+use mathlib.Core.List.{List, [], List·Memᴰ, List·Memᴰ·not-nil}
+use Prim.Native.Nat.{ℕ, _+_, _≤_, _<_}
 use native.Mathlib.Omega.{arith}
 use lib.Bits.{bitAnd}
 use lib.Count.{onesIn}
 use lib.Dec.{leb, ltb}
 use lib.ListN.{length, getD}
 use borrow.Author.Tests.{leb-true, leb-false, le-leb, lt-leb, ltb-true, ltb-false}
-use Rattle.laws.proofs.FirstLaws.{Least}
 use Rattle.laws.proofs.ListLaws.{getD-mem}
 use Rattle.laws.proofs.SetLaws.{bit-and, ones-mono}
 use Rattle.laws.proofs.SortLaws.{Strict}
@@ -22,7 +21,7 @@ use Rattle.problem.proofs.RankingLaws.{Listed, ranking-in, ranking-out,
 use Rattle.problem.proofs.PairLaws.{Step, best-mem, best-main, best-mono}
 use Rattle.problem.proofs.SettleLaws.{least-settled, least-settled-inside, main-not-after, settled-no-better}
 use Rattle.problem.proofs.WayLaws.{way-bettered}
-use Rattle.problem.proofs.ReplyLaws.{Passed, routesOf, chosen, answered, Outcome, outcome, passed-refusal, refusal-passed, sound-heads, ranked-step, route-range, reply-shared, reply-main-metres, reply-standby-metres, reply-length}
+use Rattle.problem.proofs.ReplyLaws.{Passed, routesOf, chosen, answered, Outcome, outcome, passed-refusal, sound-heads, ranked-step, route-range, reply-shared, reply-main-metres, reply-standby-metres, reply-length}
 
 -- ---- the verdict
 

@@ -1,6 +1,6 @@
 -- The promises: what the customer's demands say of every call, as theorems over the definitions of specs/. Nothing below this page needs to be read to know what is promised.
 -- A call has a table of any bytes, a request of any numbers, and a reply buffer of any size; `answer` gives its number and the bytes that it writes. Assumes nothing.
-use mathlib.Core.Path.{_≡_, refl, sym, ap, _∙_}
+use mathlib.Core.Path.{_≡_, sym, ap, _∙_}
 use mathlib.Core.Bool.{false}
 use mathlib.Core.Logic.{_↔_}
 use mathlib.Core.List.{List, _++_}
@@ -13,7 +13,7 @@ use lib.Seq.{drop-append-seam}
 use Rattle.problem.specs.Table.{mostAllowance, replySize, arcsOf}
 use Rattle.problem.specs.Routes.{IsRoute, Way, metresOf, risksOf, precedes}
 use Rattle.problem.specs.Pairs.{NoWorse, leastSettled}
-use Rattle.problem.specs.Reply.{Request, Answer, refusal, answer, after}
+use Rattle.problem.specs.Reply.{Request, refusal, answer, after}
 use Rattle.problem.proofs.ReplyLaws.{routesOf, chosen, refusal-passed}
 use Rattle.problem.proofs.CallLaws.{sharedIn, totalIn, allowing, low-number, some-route, high-number, number-range, ten-none, none-ten, settled-number, stopped-number, same-answer, no-worse-pair, no-better-ways, main-first, reply-size, enough}
 

@@ -1,22 +1,21 @@
 -- The ranking: exactly the routes, in a strict order, so that places are ranks; those no longer than a length are a beginning of it. Assumes nothing.
 use mathlib.Core.Path.{_≡_, refl, sym, ap, _∙_, subst}
 use mathlib.Core.Logic.{_⊎_, inl, inr, _↔_}
-use mathlib.Core.Bool.{Bool, true, false, true≢false}
-use mathlib.Core.List.{List, [], _∷_, _++_, map, List·Memᴰ, Memᴰ·map, Memᴰ·of-map, Memᴰ·cast, tail-eq-of-cons-eq}
-use Prim.Native.Nat.{ℕ, zero, suc, _≤_, _<_}
+use mathlib.Core.Bool.{Bool, true, false}
+use mathlib.Core.List.{List, [], _++_, List·Memᴰ, Memᴰ·map, Memᴰ·of-map, tail-eq-of-cons-eq}
+use Prim.Native.Nat.{ℕ, _≤_, _<_}
 use native.Mathlib.Omega.{arith}
-use lib.Dec.{ltb, leb}
-use lib.ListN.{length, getD, take}
+use lib.Dec.{ltb}
+use lib.ListN.{length, take}
 use borrow.Author.Tests.{ltb-true, leb-true, le-leb}
-use Rattle.laws.specs.Choosing.{lexBy, sortBy, keep, Pairwise, Distinct}
+use Rattle.laws.specs.Choosing.{lexBy, keep}
 use Rattle.laws.specs.Sets.{with}
-use Rattle.laws.proofs.ListLaws.{pairwise-map, pairwise-keep, pairwise-at, keep-in, keep-out}
-use Rattle.laws.proofs.OrderLaws.{Total, Weak, total-weak, keyed-weak, ltb-total, lex-total, lex-true, weak-asym}
-use Rattle.laws.proofs.SortLaws.{Strict, Untied, sort-mem, sort-strict, place-order, keep-beginning}
+use Rattle.laws.proofs.ListLaws.{pairwise-map, pairwise-keep, keep-in, keep-out}
+use Rattle.laws.proofs.OrderLaws.{Total, Weak, total-weak, keyed-weak, ltb-total, lex-total, lex-true}
+use Rattle.laws.proofs.SortLaws.{Strict, sort-mem, sort-strict, keep-beginning}
 use Rattle.problem.specs.declared.Arc.{Arc}
 use Rattle.problem.specs.Table.{mostArcs}
 use Rattle.problem.specs.Routes.{arcAt, metresOf, Way, IsRoute, grow, Route, routeOf, routesFrom, rankKey, precedes, within, ranking}
-use Rattle.problem.specs.Pairs.{noRoute}
 use Rattle.problem.proofs.RouteLaws.{Grown, grow-out, grow-in, grow-distinct, grown-exact, grown-short, grown-no-beginning, unmet-source}
 
 -- ---- the order of routes

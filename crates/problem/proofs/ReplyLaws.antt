@@ -1,21 +1,20 @@
 -- Calls: the checks as facts, the three ways a call can end, and the fields of a reply read back from its bytes. Assumes nothing.
 use mathlib.Core.Path.{_≡_, refl, sym, ap, _∙_}
-use mathlib.Core.Logic.{_⊎_, inl, inr}
-use mathlib.Core.Bool.{Bool, true, false, _||_, not, false≢true, true≢false}
-use mathlib.Core.List.{List, [], _∷_, _++_, List·Memᴰ}
-use Prim.Native.Nat.{ℕ, zero, suc, _+_, _*_, _-_, _/_, _%_, _^_, _≤_, _<_, min}
+use mathlib.Core.Bool.{Bool, true, false, _||_, not, true≢false}
+use mathlib.Core.List.{List, [], _∷_, List·Memᴰ}
+use Prim.Native.Nat.{ℕ, zero, suc, _-_, _/_, _%_, _^_, _≤_, _<_}
 use native.Mathlib.Omega.{arith}
-use lib.Dec.{eqb, ltb, leb}
-use lib.ListN.{length, getD, drop, replicate, length-append, length-replicate}
-use borrow.Author.Tests.{ltb-false, le-ltb, eqb-true, eqb-false, eq-eqb, ne-eqb, not-false, leb-true, leb-false, le-leb, lt-leb}
+use lib.Dec.{eqb, ltb}
+use lib.ListN.{length, getD, length-append, length-replicate}
+use borrow.Author.Tests.{ltb-false, le-ltb, eqb-true, eqb-false, eq-eqb, ne-eqb, not-false}
 use Rattle.laws.specs.Choosing.{if_then_else_}
 use Rattle.problem.specs.declared.Arc.{Arc}
 use Rattle.problem.specs.Table.{lastNode, mostArcs, mostReach, mostAllowance, mostTableBytes, replySize, numberAt, bytesOf, arcsOf, arcsNumber, allSound}
 use Rattle.problem.specs.Routes.{Route, routeOf, ranking}
-use Rattle.problem.specs.Pairs.{Pair, sharedCount, best, floor, leastSettled, ranked, verdict}
+use Rattle.problem.specs.Pairs.{Pair, sharedCount, best, floor, ranked, verdict}
 use Rattle.problem.specs.Reply.{Request, Answer, refuse, placesOf, replyOf, refusal, planned, answerUnless, answer}
-use Rattle.problem.proofs.TableLaws.{SoundArc, sound-at, sound-number, number-sound, number-nine}
-use Rattle.problem.proofs.RankingLaws.{LowHeads, Listed, ranking-out}
+use Rattle.problem.proofs.TableLaws.{sound-at, sound-number, number-sound, number-nine}
+use Rattle.problem.proofs.RankingLaws.{LowHeads, ranking-out}
 use Rattle.problem.proofs.PairLaws.{Step, best-mem, best-main}
 use Rattle.problem.proofs.SettleLaws.{least-settled-step}
 

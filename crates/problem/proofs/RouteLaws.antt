@@ -1,20 +1,20 @@
 -- Depth-first growth lists exactly the routes, none twice, none the beginning of another, each of at most 31 arcs. Assumes nothing.
 use mathlib.Core.Path.{_≡_, refl, sym, ap, _∙_, subst}
 use mathlib.Core.Logic.{_⊎_, inl, inr, _↔_}
-use mathlib.Core.Bool.{Bool, true, false, _&&_, true≢false, false≢true}
+use mathlib.Core.Bool.{Bool, true, false, false≢true}
 use mathlib.Core.List.{List, [], _∷_, _++_, map, List·Memᴰ, List·Memᴰ·head, List·Memᴰ·tail, List·Memᴰ·not-nil, List·Memᴰ·append-cases, List·Memᴰ·eq-of-singleton, List·Memᴰ·cases-cons, Memᴰ·append-left, Memᴰ·append-right, Memᴰ·cast, Memᴰ·map, Memᴰ·of-map, head-eq-of-cons-eq, tail-eq-of-cons-eq}
-use Prim.Native.Nat.{ℕ, zero, suc, _+_, _≤_, _<_, max, suc-le-suc}
+use Prim.Native.Nat.{ℕ, zero, suc, _+_, _≤_, _<_, suc-le-suc}
 use native.Mathlib.Nat.{add-zero, zero-add, le-of-suc-le-suc, not-suc-le-zero}
 use native.Mathlib.Omega.{arith}
 use lib.Dec.{eqb}
-use lib.ListN.{length, getD}
+use lib.ListN.{length}
 use borrow.Author.Tests.{eqb-true, eqb-false, eq-eqb, ne-eqb}
 use Rattle.laws.specs.Choosing.{Pairwise, Distinct}
 use Rattle.laws.specs.Sets.{bit, with, unmet}
 use Rattle.laws.proofs.ListLaws.{pairwise-append, pairwise-map, pairwise-head, pairwise-tail}
 use Rattle.laws.proofs.SetLaws.{digit, bit-with, bit-single, bit-empty, unmet-empty, unmet-with}
 use Rattle.problem.specs.declared.Arc.{Arc}
-use Rattle.problem.specs.Routes.{arcAt, nodesFrom, Way, IsRoute, metresOf, opens, sprout, grow}
+use Rattle.problem.specs.Routes.{arcAt, nodesFrom, Way, opens, sprout, grow}
 
 -- ---- an arc that opens
 

@@ -1,19 +1,18 @@
 -- Settled: once settled, settled from there on; J exists and is the least; what a settled step says of all pairs. Assumes nothing.
 use mathlib.Core.Path.{_≡_, refl, sym, ap, _∙_}
 use mathlib.Core.Logic.{_⊎_, inl, inr}
-use mathlib.Core.Bool.{Bool, true, false, _&&_, _||_, true≢false, false≢true}
+use mathlib.Core.Bool.{Bool, true, false, _||_, true≢false, false≢true}
 use mathlib.Core.List.{List, List·Memᴰ, Memᴰ·cast}
-use Prim.Native.Nat.{ℕ, zero, suc, _+_, _*_, _-_, _≤_, _<_, min}
+use Prim.Native.Nat.{ℕ, _*_, _-_, _≤_, _<_}
 use native.Mathlib.Omega.{arith}
-use lib.Dec.{eqb, leb, ltb}
+use lib.Dec.{eqb, ltb}
 use lib.ListN.{length, getD, take}
 use borrow.Author.Tests.{eq-eqb, eqb-true, eqb-false, leb-true, le-leb, ltb-true, ltb-false}
-use Rattle.laws.specs.Choosing.{leastFrom}
 use Rattle.laws.proofs.FirstLaws.{Least, least-from}
 use Rattle.laws.proofs.ListLaws.{Place, Early, mem-place, take-place, getD-take-mem, pairwise-at}
 use Rattle.laws.proofs.SortLaws.{Strict, place-order}
 use Rattle.problem.specs.Routes.{Route, precedes}
-use Rattle.problem.specs.Pairs.{Pair, sharedCount, total, judged, NoWorse, noRoute, best, floor, settledByLength, settled, leastSettled}
+use Rattle.problem.specs.Pairs.{sharedCount, total, NoWorse, noRoute, best, floor, settledByLength, settled, leastSettled}
 use Rattle.problem.proofs.RankingLaws.{precedes-weak, precedes-metres}
 use Rattle.problem.proofs.PairLaws.{pair, Step, best-least, best-mem, best-main, best-mono, floor-le, judged-no-worse, swap-shared, swap-total, swap-judged}
 

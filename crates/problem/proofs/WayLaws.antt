@@ -3,25 +3,24 @@
 use mathlib.Core.Path.{_≡_, refl, sym, ap, _∙_, subst}
 use mathlib.Core.Logic.{_⊎_, inl, inr, _↔_}
 use mathlib.Core.Bool.{Bool, true, false}
-use mathlib.Core.List.{List, [], _∷_, map, List·Memᴰ, List·Memᴰ·head, List·Memᴰ·tail, List·Memᴰ·not-nil, List·Memᴰ·cases-cons, Memᴰ·map, Memᴰ·of-map, Memᴰ·cast}
-use Prim.Native.Nat.{ℕ, zero, suc, _+_, _≤_, _<_, min, max}
+use mathlib.Core.List.{List, [], _∷_, List·Memᴰ, List·Memᴰ·head, List·Memᴰ·tail, List·Memᴰ·not-nil, List·Memᴰ·cases-cons, Memᴰ·map, Memᴰ·of-map, Memᴰ·cast}
+use Prim.Native.Nat.{ℕ, _≤_, _<_}
 use native.Mathlib.Omega.{arith}
-use lib.Bits.{bitAnd, bitOr}
-use lib.Dec.{eqb, ltb, leb}
-use lib.ListN.{length, getD}
+use lib.Bits.{bitAnd}
+use lib.Dec.{eqb, ltb}
 use borrow.Author.Tests.{eqb-true, eqb-false, eq-eqb, ltb-false}
 use Rattle.laws.specs.Choosing.{Pairwise, Distinct, keep, firstBy}
 use Rattle.laws.specs.Sets.{bit, with}
-use Rattle.laws.proofs.ListLaws.{getD-mem, keep-in, keep-out, pairwise-tail}
+use Rattle.laws.proofs.ListLaws.{keep-in, keep-out, pairwise-tail}
 use Rattle.laws.proofs.OrderLaws.{ltb-total, total-weak}
 use Rattle.laws.proofs.FirstLaws.{first-mem, first-least}
-use Rattle.laws.proofs.SetLaws.{bit-or, bit-and, bit-le-one, bit-empty, and-within}
+use Rattle.laws.proofs.SetLaws.{bit-or, bit-le-one, and-within}
 use Rattle.problem.specs.declared.Arc.{Arc}
 use Rattle.problem.specs.Table.{mostArcs}
-use Rattle.problem.specs.Routes.{arcAt, metresOf, risksOf, nodesFrom, Way, IsRoute, grow, Route, routeOf, routesFrom, ranking, freeLengths, shortest}
+use Rattle.problem.specs.Routes.{arcAt, metresOf, risksOf, nodesFrom, Way, grow, Route, routeOf, routesFrom, ranking, freeLengths, shortest}
 use Rattle.problem.specs.Pairs.{commonRisks}
 use Rattle.problem.proofs.RouteLaws.{grow-out, grow-in, grown-exact, grown-short, unmet-source}
-use Rattle.problem.proofs.RankingLaws.{LowHeads, ranking-in, ranking-out, Listed}
+use Rattle.problem.proofs.RankingLaws.{LowHeads, ranking-in, ranking-out}
 use Rattle.problem.proofs.PairLaws.{common-le, common-all}
 
 -- ---- loops cut out

@@ -81,5 +81,6 @@ unfoldable pub arcsNumber : List Arc → ℕ
 arcsNumber [] = 0
 arcsNumber (a ∷ arcs) = if eqb (faultNumber (faultOf a)) 0 then arcsNumber arcs else faultNumber (faultOf a)
 
+-- every field of every arc is in its range
 unfoldable pub allSound : List Arc → Bool
 allSound arcs = eqb (arcsNumber arcs) 0

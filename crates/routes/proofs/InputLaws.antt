@@ -1,6 +1,6 @@
 -- The tests of number 12, and what is printed of a reply buffer that the entry has filled. Assumes nothing.
 use mathlib.Core.Path.{_≡_, refl, sym, ap, ap₂, _∙_, subst}
-use mathlib.Core.Bool.{Bool, true, false, _||_, not, true≢false}
+use mathlib.Core.Bool.{Bool, true, false, not, true≢false}
 use mathlib.Core.List.{List, [], _∷_, _++_, append-nil}
 use Prim.Native.Nat.{ℕ, _+_, _*_, _≤_, _<_}
 use native.Mathlib.Omega.{arith}
@@ -10,7 +10,7 @@ use borrow.Author.Tests.{ltb-true, ltb-false, lt-ltb, le-ltb, eq-eqb, ne-eqb}
 use Rattle.laws.specs.Choosing.{if_then_else_}
 use Rattle.buffer.specs.Puts.{Puts}
 use Rattle.problem.specs.Table.{replySize, numberAt}
-use Rattle.problem.specs.Reply.{Request, Answer, after, answer, refuse}
+use Rattle.problem.specs.Reply.{Request, Answer, after, answer}
 use Rattle.problem.specs.Printed.{text, fields, lines, printed, output, requestOf}
 use Rattle.problem.proofs.CallLaws.{low-number, reply-size}
 use Rattle.entry.specs.Entry.{answerTo}

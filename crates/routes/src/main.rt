@@ -1,8 +1,6 @@
 // The program `routes`: a request and a table on standard input, three lines or a refusal on standard output.
 ghost use mathlib.Core.Path.{_≡_};
-ghost use mathlib.Core.Bool.{not};
 ghost use Prim.Native.Nat.{_+_, _*_, _≤_};
-ghost use lib.Dec.{eqb};
 ghost use lib.ListN.{length, drop};
 ghost use Rattle.problem.specs.Reply.{answer, after};
 ghost use Rattle.problem.specs.Printed.{output, requestOf};

@@ -1,13 +1,12 @@
 // The best standby of a main: the least key, shared count before metres, of all routes, found by a search that leaves out what cannot be better.
 ghost use mathlib.Core.Path.{_≡_};
 ghost use mathlib.Core.List.{foldl};
-ghost use Prim.Native.Nat.{suc, _+_, _<_, _≤_, _^_, min, max};
-ghost use lib.Bits.{bitOr};
+ghost use Prim.Native.Nat.{suc, _+_, _<_, _≤_, min, max};
 ghost use lib.ListN.{length};
 ghost use Rattle.laws.specs.Sets.{with, unmet};
 ghost use Rattle.problem.specs.Table.{mostArcs, mostReach};
 ghost use Rattle.problem.specs.Routes.{arcAt, grow};
-ghost use Rattle.net.specs.Net.{Net, arcsIn, wordAt, nextFrom, headsFrom, lowerFrom, terminalAt, reachAt, sourceAt};
+ghost use Rattle.net.specs.Net.{Net, arcsIn, wordAt, nextFrom, lowerFrom, terminalAt, reachAt, sourceAt};
 ghost use Rattle.standby.specs.Standby.{offer, EveryDoor, Looked, Ready};
 
 const MOST_RISKS: u64 = 64;

@@ -1,5 +1,5 @@
 -- What an arc does to a sweep: which routes over it are met, and which are cut off. Assumes nothing.
-use mathlib.Core.Path.{_≡_, refl, sym, ap, ap₂, _∙_, subst}
+use mathlib.Core.Path.{_≡_, refl, sym, ap, _∙_, subst}
 use mathlib.Core.Logic.{_⊎_, inl, inr}
 use mathlib.Core.Bool.{Bool, true, false, true≢false}
 use mathlib.Core.List.{List, [], _∷_, foldl, List·Memᴰ, List·Memᴰ·not-nil, List·Memᴰ·eq-of-singleton}
@@ -8,7 +8,7 @@ use native.Mathlib.Nat.{add-assoc, add-zero}
 use native.Mathlib.Omega.{arith}
 use lib.Bits.{bitOr, or-zero-r}
 use lib.Dec.{ltb}
-use lib.ListN.{length, drop, drop-of-length-le}
+use lib.ListN.{length, drop-of-length-le}
 use borrow.Author.Tests.{lt-ltb, le-ltb, eq-eqb}
 use Rattle.laws.specs.Sets.{bit, with, unmet}
 use Rattle.laws.proofs.SetLaws.{or-assoc}
@@ -22,7 +22,7 @@ use Rattle.sweep.specs.declared.Leg.{Leg}
 use Rattle.sweep.specs.declared.Swept.{Swept}
 use Rattle.sweep.specs.declared.Tally.{Tally}
 use Rattle.sweep.specs.declared.Window.{Window}
-use Rattle.sweep.specs.Sweep.{taken, ended, meet, Seen, Ready, Sweeps}
+use Rattle.sweep.specs.Sweep.{taken, ended, meet, Seen, Sweeps}
 
 -- ---- what meeting a route does
 

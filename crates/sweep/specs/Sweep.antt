@@ -1,6 +1,6 @@
 -- A sweep: every route of a window of lengths, met in any order, is tried as a main and brings a tally up to date. Assumes nothing.
 use Prim.Native.Nat.{ℕ, suc, _+_, _≤_, _<_, min, max}
-use mathlib.Core.Bool.{Bool, true, false}
+use mathlib.Core.Bool.{true, false}
 use mathlib.Core.List.{List, foldl, List·Memᴰ}
 use mathlib.Core.Path.{_≡_}
 use lib.Bits.{bitAnd, bitOr}

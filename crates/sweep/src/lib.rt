@@ -1,8 +1,7 @@
 // A sweep: every route of a window of lengths is tried as a main, in whatever order it is met. It stores no route.
 ghost use mathlib.Core.Path.{_≡_};
 ghost use mathlib.Core.Bool.{false};
-ghost use mathlib.Core.List.{foldl};
-ghost use Prim.Native.Nat.{suc, _+_, _<_, _≤_, _^_, max};
+ghost use Prim.Native.Nat.{_+_, _<_, _≤_, max};
 ghost use lib.Dec.{ltb};
 ghost use lib.ListN.{length};
 ghost use Rattle.problem.specs.Table.{mostReach};
@@ -45,7 +44,7 @@ pub struct Leg {
 }
 
 // The key of the best pair after a main of so many metres and these risks was tried with every standby.
-pub fn best_with(net: &[u64], metres: u64, risks: u64, best: u64) -> u64
+fn best_with(net: &[u64], metres: u64, risks: u64, best: u64) -> u64
     requires { ⌜ Net (now net) × (metres ≤ mostReach) ⌝ }
     ensures { λ r. ⌜ r ≡ bestWith (arcsIn (now (net .entry))) (wordAt (now (net .entry)) sourceAt) (wordAt (now (net .entry)) terminalAt) (wordAt (now (net .entry)) reachAt) metres risks best ⌝ }
 {

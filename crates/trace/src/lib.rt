@@ -7,7 +7,7 @@ ghost use lib.ListN.{length};
 ghost use Rattle.laws.specs.Sets.{unmet};
 ghost use Rattle.problem.specs.Table.{mostArcs, mostReach, mostAllowance};
 ghost use Rattle.problem.specs.Routes.{arcAt, grow};
-ghost use Rattle.net.specs.Net.{Net, arcsIn, wordAt, nextFrom, lowerFrom, terminalAt};
+ghost use Rattle.net.specs.Net.{Net, arcsIn, wordAt, terminalAt};
 ghost use Rattle.track.specs.Track.{routeIn, Fit, Holds, onward};
 ghost use Rattle.trace.specs.Trace.{allIn, wantedIn, InRange, soughtIn, meet, seek, Outcome, Ready};
 use problem::Arc;
@@ -93,7 +93,7 @@ fn over(net: &[u64], i: u64, t: Track) -> Track
 }
 
 // The search over all that goes on from `at`, with the track t behind it; it stops at the first route that is wanted.
-pub fn trace(net: &[u64], want: Want, at: u64, met: u64, t: Track, s: Found) -> Found
+fn trace(net: &[u64], want: Want, at: u64, met: u64, t: Track, s: Found) -> Found
     requires { ⌜ Ready (now net) want at met t × Fit (s .track) ⌝ }
     ensures fit { λ r. ⌜ Fit (r .track) ⌝ }
     ensures sought { λ r. ⌜ soughtIn r ≡ foldl (seek (arcsIn (now (net .entry))) (want .metres) (wantedIn (now (net .entry)) want) (routeIn t)) (soughtIn s) (grow (arcsIn (now (net .entry))) (wordAt (now (net .entry)) terminalAt) (suc (unmet 32 met)) met at) ⌝ }

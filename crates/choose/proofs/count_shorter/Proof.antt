@@ -1,5 +1,5 @@
 -- `choose::count_shorter` meets its contract: a sweep that tries no pair anew counts the routes of its window. Assumes nothing.
-use mathlib.Core.Path.{_≡_, refl, sym, ap, _∙_}
+use mathlib.Core.Path.{refl, sym, ap, _∙_}
 use Prim.Native.Nat.{ℕ}
 use Rattle.problem.proofs.WindowLaws.{count, shorter}
 use Rattle.plan.specs.Plan.{routesIn}

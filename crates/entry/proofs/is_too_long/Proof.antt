@@ -1,5 +1,4 @@
 -- `entry::is_too_long` meets its contract. Assumes nothing.
-use mathlib.Core.Path.{_≡_}
 use borrow.Author.Tests.{lt-ltb, le-ltb}
 use Rattle.problem.specs.Table.{mostReach}
 use Rattle.entry.proofs.is_too_long.Statement.{statement}

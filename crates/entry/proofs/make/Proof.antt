@@ -1,5 +1,4 @@
 -- `entry::make` meets its contract: what the parts learnt of the laid-out words is true of the table. Assumes nothing.
-use mathlib.Core.Path.{_≡_}
 use borrow.Author.Needs.{needs}
 use Rattle.entry.proofs.EntryLaws.{planning, made-planned}
 use Rattle.entry.proofs.make.Statement.{statement}

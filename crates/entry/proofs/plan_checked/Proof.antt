@@ -1,5 +1,4 @@
 -- `entry::plan_checked` meets its contract: there is no route where the source's shortest way is missing or too long, and there is one otherwise. Assumes nothing.
-use mathlib.Core.Path.{_≡_}
 use mathlib.Core.Logic.{inl, inr}
 use native.Mathlib.Omega.{arith}
 use borrow.Author.Needs.{needs}

@@ -1,7 +1,7 @@
 -- `floor::lengthened` meets its contract: the larger length is the entry's own, or the given one. Assumes nothing.
 use mathlib.Core.Path.{_≡_, ap}
 use mathlib.Core.Bool.{Bool}
-use Prim.Native.Nat.{ℕ, _≤_, _<_, max}
+use Prim.Native.Nat.{ℕ}
 use native.Mathlib.Omega.{arith}
 use Rattle.side.specs.declared.Entry.{Entry}
 use Rattle.floor.proofs.lengthened.Statement.{statement}

@@ -1,5 +1,4 @@
 -- `keys::bound_for` meets its contract: by the test that led to each return. Assumes nothing.
-use mathlib.Core.Path.{sym, _∙_}
 use borrow.Author.Tests.{lt-ltb, le-ltb}
 use Rattle.keys.specs.Keys.{boundFor}
 use borrow.Author.Needs.{needs}

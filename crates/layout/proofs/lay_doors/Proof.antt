@@ -1,7 +1,7 @@
 -- `layout::lay_doors` meets its contract. The invariant: of the first k arcs, those into the terminal are written. The measure: the arcs left.
 -- Assumes nothing.
 use Prim.Native.Nat.{_-_, _≤_}
-use mathlib.Core.Path.{_≡_, sym, ap, _∙_}
+use mathlib.Core.Path.{_≡_, ap, _∙_}
 use native.Mathlib.Omega.{arith}
 use lib.ListN.{length}
 use Rattle.problem.specs.declared.Arc.{Arc}

@@ -1,6 +1,6 @@
 -- `net::metres` meets its contract: the word is the arc's field, and a sound table keeps it in its range. Assumes nothing.
 use borrow.Author.Needs.{needs}
-use mathlib.Core.Path.{_∙_, sym}
+use mathlib.Core.Path.{_∙_}
 use native.Mathlib.Omega.{arith}
 use Rattle.problem.proofs.TableLaws.{sound-at}
 use Rattle.net.specs.Net.{arcsIn}

@@ -1,6 +1,6 @@
 -- `net::risks` meets its contract: the word is the arc's field. Assumes nothing.
 use borrow.Author.Needs.{needs}
-use mathlib.Core.Path.{_∙_, sym}
+use mathlib.Core.Path.{_∙_}
 use Rattle.net.proofs.NetLaws.{risks-word}
 use Rattle.net.proofs.risks.Statement.{statement}
 use Rattle.net.proofs.risks.Tie as tie

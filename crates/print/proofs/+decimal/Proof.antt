@@ -5,7 +5,6 @@ use native.Mathlib.Omega.{arith}
 use borrow.Author.Needs.{needs}
 use borrow.Fn.Kinds.{In}
 use borrow.Fn.PlainCycle.{Measures, is, falls, and}
-use Rattle.problem.specs.Printed.{digits}
 use Rattle.buffer.proofs.PutLaws.{puts-then}
 use Rattle.buffer.proofs.put.Reads as put-reads
 use Rattle.print.proofs.DigitLaws.{digits-one, digits-last, digits-length}

@@ -1,5 +1,4 @@
 -- `routes::plan` meets its contract: it asks the entry for what the input's first 16 bytes say. Assumes nothing.
-use mathlib.Core.Path.{_≡_}
 use native.Mathlib.Omega.{arith}
 use Prim.Native.Nat.{_-_}
 use lib.ListN.{length, drop, length-drop}

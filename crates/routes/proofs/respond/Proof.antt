@@ -1,5 +1,5 @@
 -- `routes::respond` meets its contract: what is printed of the number and the reply is what 01 has printed for the input. Assumes nothing.
-use mathlib.Core.Path.{_≡_, refl, sym, _∙_}
+use mathlib.Core.Path.{refl, sym, _∙_}
 use borrow.Author.Needs.{needs}
 use Rattle.routes.proofs.InputLaws.{faulty-long, output-fault, output-answer, put-output}
 use Rattle.routes.proofs.respond.Statement.{statement}

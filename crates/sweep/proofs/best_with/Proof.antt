@@ -1,6 +1,6 @@
 -- `sweep::best_with` meets its contract: the least key of the standbys stands beside the best pair's key (`tried`); below the bound it makes the
 -- pair, else the best stays. Assumes nothing.
-use mathlib.Core.Path.{_≡_, sym, _∙_}
+use mathlib.Core.Path.{sym, _∙_}
 use native.Mathlib.Omega.{arith}
 use Rattle.net.specs.Net.{arcsIn, wordAt, reachAt}
 use Rattle.sweep.proofs.TryLaws.{Beside, after, tried, beside-made, beside-kept}

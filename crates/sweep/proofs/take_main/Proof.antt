@@ -1,7 +1,6 @@
 -- `sweep::take_main` meets its contract: each return is one case of `taken`, by the tests that led there. Assumes nothing.
-use mathlib.Core.Path.{_≡_, refl, sym, ap₂, _∙_}
+use mathlib.Core.Path.{ap₂}
 use borrow.Author.Tests.{le-leb, lt-leb}
-use native.Mathlib.Omega.{arith}
 use mathlib.Core.Bool.{false}
 use Prim.Native.Nat.{ℕ, _+_}
 use Rattle.sweep.specs.declared.Tally.{Tally}

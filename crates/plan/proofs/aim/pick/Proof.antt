@@ -1,5 +1,4 @@
 -- `aim::pick` meets its contract: what is left only falls, and no length passes the span's end. The measure is the steps ahead. Assumes nothing.
-use mathlib.Core.Path.{_≡_}
 use Prim.Native.Nat.{_-_, _≤_}
 use native.Mathlib.Omega.{arith}
 use borrow.Author.Needs.{needs}
