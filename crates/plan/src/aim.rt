@@ -1,6 +1,6 @@
 // Where a window should end to hold as many routes as may still be ranked. What is found here only narrows a window, and any width is right:
 // no promise rests on it. Without it a stopped request would halve its way down to one length, with a sweep each time.
-ghost use Prim.Native.Nat.{_+_, _*_, _≤_, _<_, min};
+ghost use Prim.Native.Nat.{_+_, _*_, _≤_, _<_};
 ghost use mathlib.Core.Path.{_≡_};
 ghost use lib.ListN.{length};
 ghost use Rattle.problem.specs.Table.{mostReach, mostAllowance};
@@ -23,15 +23,6 @@ const WORDS: usize = 1027;
 
 // More than are ever counted, and than any length.
 pub const UNKNOWN: u64 = 1099511627776;
-
-fn smaller(a: u64, b: u64) -> u64
-    ensures { λ r. ⌜ r ≡ min a b ⌝ }
-{
-    if a < b {
-        return a;
-    }
-    b
-}
 
 fn one_more(n: u64) -> u64 {
     if n < UNKNOWN {
@@ -143,7 +134,7 @@ fn pick(counts: &[u64], s: Span, step: u64) -> Picked
             };
         }
         left = left - n;
-        from = smaller(s.to, from + step);
+        from = laws::smaller(s.to, from + step);
         at = at + 1;
     }
     Picked {
@@ -183,7 +174,7 @@ fn nearer(net: &[u64], counts: &mut [u64], s: Span) -> Span
     }
     Span {
         from: p.from,
-        to: smaller(s.to, p.from + step - 1),
+        to: laws::smaller(s.to, p.from + step - 1),
         left: p.left,
         past: false,
     }
@@ -220,7 +211,7 @@ fn before(cur: u64, end: u64, width: u64) -> u64
     if end <= cur {
         return 0;
     }
-    smaller(width, end - 1 - cur)
+    laws::smaller(width, end - 1 - cur)
 }
 
 // Narrows the next window where the allowance is likely to end within it: to the lengths before its end, and then to that one length.
@@ -240,7 +231,7 @@ pub fn narrow(net: &[u64], allowance: u64, ranked: u64, cur: u64, width: u64, en
             end: end,
         };
     }
-    let hi = smaller(cur + width, net::reach(net));
+    let hi = laws::smaller(cur + width, net::reach(net));
     let s = find_end(net, cur, hi, allowance - ranked);
     if s.past {
         return Aim {

@@ -7,7 +7,7 @@ use sweep::Window;
 ghost use mathlib.Core.Path.{_≡_};
 ghost use mathlib.Core.Bool.{false};
 ghost use mathlib.Core.List.{List, List·Memᴰ};
-ghost use Prim.Native.Nat.{ℕ, _+_, _*_, _<_, _≤_, min};
+ghost use Prim.Native.Nat.{ℕ, _+_, _*_, _<_, _≤_};
 ghost use Rattle.problem.specs.Table.{mostReach, mostAllowance};
 ghost use Rattle.problem.specs.Routes.{metresOf};
 ghost use Rattle.problem.specs.Pairs.{floor};
@@ -77,15 +77,6 @@ struct Turn {
     end: u8,
 }
 
-fn smaller(a: u64, b: u64) -> u64
-    ensures { λ r. ⌜ r ≡ min a b ⌝ }
-{
-    if a < b {
-        return a;
-    }
-    b
-}
-
 // The cap of a window. A wide one gives up early, since what it found is thrown away; one of a single length goes on to the allowance.
 fn cap_for(ranked: u64, allowance: u64, width: u64) -> u64
     requires { ⌜ (ranked ≤ allowance) × (allowance ≤ mostAllowance) ⌝ }
@@ -94,7 +85,7 @@ fn cap_for(ranked: u64, allowance: u64, width: u64) -> u64
     if width == 0 {
         return allowance;
     }
-    smaller(allowance, 8 * ranked + 64)
+    laws::smaller(allowance, 8 * ranked + 64)
 }
 
 // How wide the next window is to be, once one has taken the routes ranked from `before` to `ranked`. Each window walks again over what is
@@ -151,7 +142,7 @@ fn try_window(net: &[u64], allowance: u64, floor: u64, t: Tally, cur: u64, width
     requires { ⌜ Net (now net) × Turning (now net) allowance t cur width ⌝ }
     ensures { λ r. ⌜ Turned (now (net .entry)) allowance floor cur width r ⌝ }
 {
-    let hi = smaller(cur + width, net::reach(net));
+    let hi = laws::smaller(cur + width, net::reach(net));
     let cap = cap_for(t.ranked, allowance, hi - cur);
     let w = Window {
         lo: cur,
@@ -188,7 +179,7 @@ pub fn plan(net: &[u64], allowance: u64, floor: u64) -> Run
     let reach = net::reach(net);
     let mut t = no_tally();
     let mut cur = net::lower(net, net::source(net));
-    let mut width = smaller(cur / 8, WIDEST);
+    let mut width = laws::smaller(cur / 8, WIDEST);
     let mut end = aim::UNKNOWN;
     while cur <= reach {
         let a = aim::narrow(net, allowance, t.ranked, cur, width, end);

@@ -1,7 +1,7 @@
 // The best standby of a main: the least key, shared count before metres, of all routes, found by a search that leaves out what cannot be better.
 ghost use mathlib.Core.Path.{_≡_};
 ghost use mathlib.Core.List.{foldl};
-ghost use Prim.Native.Nat.{suc, _+_, _<_, _≤_, min, max};
+ghost use Prim.Native.Nat.{suc, _+_, _<_, _≤_};
 ghost use lib.ListN.{length};
 ghost use Rattle.laws.specs.Sets.{with, unmet};
 ghost use Rattle.problem.specs.Table.{mostArcs, mostReach};
@@ -37,24 +37,6 @@ fn passed(next: u64) -> Hop
     }
 }
 
-fn fewer(a: u64, b: u64) -> u64
-    ensures { λ r. ⌜ r ≡ min a b ⌝ }
-{
-    if a < b {
-        return a;
-    }
-    b
-}
-
-fn more(a: u64, b: u64) -> u64
-    ensures { λ r. ⌜ r ≡ max a b ⌝ }
-{
-    if a < b {
-        return b;
-    }
-    a
-}
-
 // The fewest risks that the main shares with a door. The last arc of a standby is a door, so every standby shares at least as many: a search
 // that knows it need not walk up to the terminal to learn it.
 fn door(net: &[u64], main: u64) -> u64
@@ -69,7 +51,7 @@ fn door(net: &[u64], main: u64) -> u64
         if shared == 0 {
             return 0;
         }
-        least = fewer(least, shared);
+        least = laws::smaller(least, shared);
         j += 1;
     }
     least
@@ -101,7 +83,7 @@ fn look(
         return passed(next);
     }
     let r = risks | net::risks(net, i);
-    let shared = more(door, sets::shared_count(main, r) as u64);
+    let shared = laws::larger(door, sets::shared_count(main, r) as u64);
     let key = keys::standby_key(shared, to);
     if least <= key {
         return passed(next);

@@ -1,7 +1,7 @@
 // A sweep: every route of a window of lengths is tried as a main, in whatever order it is met. It stores no route.
 ghost use mathlib.Core.Path.{_≡_};
 ghost use mathlib.Core.Bool.{false};
-ghost use Prim.Native.Nat.{_+_, _<_, _≤_, max};
+ghost use Prim.Native.Nat.{_+_, _<_, _≤_};
 ghost use lib.Dec.{ltb};
 ghost use lib.ListN.{length};
 ghost use Rattle.problem.specs.Table.{mostReach};
@@ -56,15 +56,6 @@ fn best_with(net: &[u64], metres: u64, risks: u64, best: u64) -> u64
     best
 }
 
-fn longer(a: u64, b: u64) -> u64
-    ensures { λ r. ⌜ r ≡ max a b ⌝ }
-{
-    if a < b {
-        return b;
-    }
-    a
-}
-
 // The tally after one more main.
 fn take_main(net: &[u64], cap: u64, metres: u64, risks: u64, t: Tally) -> Tally
     requires { ⌜ Net (now net) × (metres ≤ mostReach) ⌝ }
@@ -81,7 +72,7 @@ fn take_main(net: &[u64], cap: u64, metres: u64, risks: u64, t: Tally) -> Tally
             over: true,
         };
     }
-    let last = longer(t.last, metres);
+    let last = laws::larger(t.last, metres);
     let best = best_with(net, metres, risks, t.best);
     Tally {
         ranked: t.ranked + 1,
