@@ -2,8 +2,8 @@
 use mathlib.Core.Path.{_≡_, refl, sym, ap, _∙_}
 use mathlib.Core.Logic.{_⊎_, inl, inr}
 use mathlib.Core.Bool.{Bool, true, false, true≢false}
-use mathlib.Core.List.{List, [], _∷_, _++_, map, List·Memᴰ, List·Memᴰ·head, List·Memᴰ·tail, List·Memᴰ·not-nil, List·Memᴰ·cases-cons, List·Memᴰ·append-cases, Memᴰ·of-map}
-use Prim.Native.Nat.{ℕ, zero, suc, _≤_, _<_, suc-le-suc}
+use mathlib.Core.List.{List, [], _∷_, _++_, map, List·Memᴰ, List·Memᴰ·head, List·Memᴰ·tail, List·Memᴰ·not-nil, List·Memᴰ·cases-cons, List·Memᴰ·append-cases, Memᴰ·of-map, Memᴰ·cast}
+use Prim.Native.Nat.{ℕ, zero, suc, _≤_, _<_, min, suc-le-suc}
 use native.Mathlib.Nat.{le-of-suc-le-suc, not-suc-le-zero}
 use native.Mathlib.Omega.{arith}
 use lib.ListN.{length, getD, take}
@@ -48,6 +48,19 @@ module _ {A : Type 0} where
   getD-take-mem d (suc n) [] k h b = absurd (not-suc-le-zero b)
   getD-take-mem d (suc n) (a ∷ l) zero h b = List·Memᴰ·head refl
   getD-take-mem d (suc n) (a ∷ l) (suc k) h b = List·Memᴰ·tail (getD-take-mem d n l k (le-of-suc-le-suc h) (le-of-suc-le-suc b))
+
+  -- those of the first i are among the first j
+  pub take-more : (d : A) {i j : ℕ} (l : List A) → i ≤ j → {x : A} → List·Memᴰ x (take i l) → List·Memᴰ x (take j l)
+  take-more d {i} {j} l h m = let e = take-place d i l m in Memᴰ·cast (e .is) (getD-take-mem d j l (e .at) (omega (arith, e .early)) (e .inside))
+
+  -- and the first of a list are among its members
+  pub take-mem : (d : A) (n : ℕ) {l : List A} {x : A} → List·Memᴰ x (take n l) → List·Memᴰ x l
+  take-mem d n {l} m = let e = take-place d n l m in Memᴰ·cast (e .is) (getD-mem d l (e .at) (e .inside))
+
+  -- the first n of a list are no more than it has
+  pub take-inside : (d : A) (n : ℕ) (l : List A) {x : A} → List·Memᴰ x (take n l) → List·Memᴰ x (take (min n (length l)) l)
+  take-inside d n l m =
+      let e = take-place d n l m in Memᴰ·cast (e .is) (getD-take-mem d (min n (length l)) l (e .at) (omega (arith, e .early, e .inside)) (e .inside))
 
   pub cons-mem : {a x : A} {l r : List A} → (List·Memᴰ x l → List·Memᴰ x r) → List·Memᴰ x (a ∷ l) → List·Memᴰ x (a ∷ r)
   cons-mem f (List·Memᴰ·head e) = List·Memᴰ·head e

@@ -7,10 +7,12 @@ use native.Mathlib.Omega.{arith}
 use lib.Arith.{lt-one}
 use lib.Bits.{bitAnd, bitOr, and-step, or-step, and-shr, or-shr}
 use lib.Count.{onesIn, ones, ones-step}
+use lib.ListN.{length}
 use lib.Pow.{pow-mono}
 use lib.Dec.{eqb, eqb·zero-suc, eqb·suc-zero, eqb·suc-suc, lit<}
 use borrow.Author.Tests.{eqb-true, eqb-false, ne-eqb}
-use Rattle.laws.specs.Sets.{bit, with, unmet}
+use Rattle.laws.specs.Choosing.{keep}
+use Rattle.laws.specs.Sets.{bit, with, unmet, below, inBoth}
 
 -- ---- the bits of a set, from the lowest on
 
@@ -118,6 +120,24 @@ pub ones-at : (d s : ℕ) → s < 2 ^ d → onesIn d s ≡ ones s
 unfolding onesIn ones
 ones-at zero s h = rw (lt-one h)
 ones-at (suc d) s h = ap (λ (x : ℕ). s % 2 + x) (ones-at d (s / 2) (div-lt-iff-lt-mul (lit< tt) .1 (rw pow-suc at h))) ∙ sym (ones-step s)
+
+-- the count by width from its highest place down
+ones-top : (d x : ℕ) → onesIn (suc d) x ≡ onesIn d x + bit x d
+unfolding onesIn
+ones-top zero x = rw bit-zero (omega arith)
+ones-top (suc d) x = rw bit-suc (omega (arith, ones-top d (x / 2)))
+
+-- the count of ones in what two sets have in common is the number of their common elements
+pub ones-common : (d a b : ℕ) → onesIn d (bitAnd a b) ≡ length (inBoth d a b)
+unfolding onesIn inBoth below keep
+ones-common zero a b = refl
+ones-common (suc d) a b = ones-top d (bitAnd a b) ∙ go (eqb (bit a d) 1) refl (eqb (bit b d) 1) refl (ones-common d a b)
+  where
+    go : (s : Bool) → eqb (bit a d) 1 ≡ s → (t : Bool) → eqb (bit b d) 1 ≡ t → onesIn d (bitAnd a b) ≡ length (inBoth d a b)
+        → onesIn d (bitAnd a b) + bit (bitAnd a b) d ≡ length (inBoth (suc d) a b)
+    go true e true f ih = rw (e, f, bit-and, inBoth, below, keep) (omega (arith, eqb-true (bit a d) 1 e, eqb-true (bit b d) 1 f))
+    go true e false f ih = rw (e, f, bit-and, inBoth, below, keep) (omega (arith, eqb-false (bit b d) 1 f, bit-le-one b d))
+    go false e t f ih = rw (e, bit-and, inBoth, below, keep) (omega (arith, eqb-false (bit a d) 1 e, bit-le-one a d))
 
 -- ---- how many of 0 to n - 1 are not in a set
 

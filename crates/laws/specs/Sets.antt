@@ -1,6 +1,10 @@
 -- A set of nodes or of risks is a number: r is in it where its bit r is 1. Assumes nothing.
 use Prim.Native.Nat.{ℕ, zero, suc, _+_, _-_, _/_, _%_, _^_}
+use mathlib.Core.Bool.{_&&_}
+use mathlib.Core.List.{List, [], _∷_}
 use lib.Bits.{bitOr}
+use lib.Dec.{eqb}
+use Rattle.laws.specs.Choosing.{keep}
 
 -- 1 where r is in the set, else 0
 unfoldable pub bit : ℕ → ℕ → ℕ
@@ -14,3 +18,12 @@ with set r = bitOr set (2 ^ r)
 unfoldable pub unmet : ℕ → ℕ → ℕ
 unmet zero set = 0
 unmet (suc n) set = (1 - bit set n) + unmet n set
+
+-- the numbers below n, the highest first
+unfoldable pub below : ℕ → List ℕ
+below zero = []
+below (suc n) = n ∷ below n
+
+-- those of them that are in both sets
+unfoldable pub inBoth : ℕ → ℕ → ℕ → List ℕ
+inBoth n a b = keep (λ r. eqb (bit a r) 1 && eqb (bit b r) 1) (below n)
