@@ -15,11 +15,13 @@ use Rattle.problem.specs.Table.{mostReach, mostAllowance, replySize, allSound}
 use Rattle.problem.specs.Routes.{Route, metresOf, risksOf, ranking}
 use Rattle.problem.specs.Pairs.{Pair, commonRisks, floor, ranked, verdict}
 use Rattle.problem.specs.Reply.{Request, Answer, refuse, after, replyOf, refusal, planned, answerUnless, answer}
+use Rattle.problem.specs.Calls.{routesOf, Called}
 use Rattle.problem.proofs.RankingLaws.{ranking-out}
 use Rattle.problem.proofs.PairLaws.{best-mem, best-main}
 use Rattle.problem.proofs.WayLaws.{FreeWay, way-bettered}
-use Rattle.problem.proofs.ReplyLaws.{Passed, routesOf, route-range, sound-heads}
-use Rattle.problem.proofs.CallLaws.{WithPair, some-route, reply-size, pair-step}
+use Rattle.problem.proofs.ReplyLaws.{Passed, route-range, sound-heads}
+use Rattle.problem.proofs.CallLaws.{WithPair, some-route, pair-step}
+use Rattle.problem.proofs.SaidLaws.{reply-size}
 use Rattle.side.specs.declared.Side.{Side}
 use Rattle.side.specs.Side.{SideTable, reachedAt, metresAt}
 use Rattle.track.specs.Track.{routeIn}
@@ -111,31 +113,33 @@ unfolding answer answerUnless planned
 none-answered table q size passed e = rw (passed, e)
 
 -- a refusal leaves the buffer as it is
-pub untouched : (a : Answer) (n : ℕ) (buffer : List ℕ) → a ≡ refuse n → (n ≡ a .number) × (buffer ≡ after a buffer)
+pub untouched : (table : List ℕ) (q : Request) (before : List ℕ) (n : ℕ) → answer table q (length before) ≡ refuse n → Called table q before n before
 unfolding after
-untouched a n buffer e = (ap (λ (x : Answer). x .number) (sym e), ap (λ (x : Answer). after x buffer) (sym e))
+untouched table q before n e = record { number-is = ap (λ (x : Answer). x .number) (sym e); buffer-is = ap (λ (x : Answer). after x before) (sym e) }
 
 -- the bytes that are written where a pair was found are those of the answer
-pub given : (table : List ℕ) (q : Request) (size : ℕ) → Passed table q size → {m : Made} → Found (routesOf table q) (q .allowance) m → (buffer : List ℕ)
-    → (m .choice .verdict ≡ answer table q size .number)
-    × (replyOf (m .choice .verdict) (m .floor) (m .choice .ranked) (pairIn (m .choice .main) (m .choice .standby)) ++ drop replySize buffer ≡ after (answer table q size) buffer)
+pub given : (table : List ℕ) (q : Request) (before : List ℕ) → Passed table q (length before) → {m : Made} → Found (routesOf table q) (q .allowance) m → {now : List ℕ}
+    → now ≡ replyOf (m .choice .verdict) (m .floor) (m .choice .ranked) (pairIn (m .choice .main) (m .choice .standby)) ++ drop replySize before
+    → Called table q before (m .choice .verdict) now
 unfolding after
-given table q size passed {m} f buffer = (
-  f .verdict-is ∙ ap (λ (x : Answer). x .number) (sym (w .is)),
-  ap (λ (bytes : List ℕ). bytes ++ drop replySize buffer) same
-      ∙ ap (λ (n : ℕ). answer table q size .reply ++ drop n buffer) (sym short),
-)
+given table q before passed {m} f e =
+    record {
+      number-is = f .verdict-is ∙ ap (λ (x : Answer). x .number) (sym (w .is));
+      buffer-is =
+          e ∙ ap (λ (bytes : List ℕ). bytes ++ drop replySize before) same
+          ∙ ap (λ (n : ℕ). answer table q (length before) .reply ++ drop n before) (sym short);
+    }
   where
-    w : WithPair table q size
-    w = some-route table q size passed (f .some-route)
+    w : WithPair table q (length before)
+    w = some-route table q (length before) passed (f .some-route)
 
     p : Pair
     p = pairIn (m .choice .main) (m .choice .standby)
 
-    same : replyOf (m .choice .verdict) (m .floor) (m .choice .ranked) p ≡ answer table q size .reply
+    same : replyOf (m .choice .verdict) (m .floor) (m .choice .ranked) p ≡ answer table q (length before) .reply
     same = rw (f .verdict-is, f .floor-is, f .ranked-is, f .pair-is, w .is)
 
-    short : length (answer table q size .reply) ≡ replySize
+    short : length (answer table q (length before) .reply) ≡ replySize
     short = reply-size w
 
 -- number 11 is never given

@@ -1,4 +1,4 @@
--- What the entry promises: the answer of the definitions, for every table, request and buffer. Assumes nothing.
+-- What planning makes of a call whose checks have passed. What the entry promises of any call is `Called` of the problem's definitions. Assumes nothing.
 use Prim.Native.Nat.{ℕ, _<_}
 use mathlib.Core.Bool.{true, false}
 use mathlib.Core.List.{List, []}
@@ -6,13 +6,8 @@ use mathlib.Core.Path.{_≡_}
 use lib.ListN.{length}
 use Rattle.problem.specs.Routes.{Route}
 use Rattle.problem.specs.Pairs.{Pair, best, floor, ranked, verdict}
-use Rattle.problem.specs.Reply.{Answer, answer}
 use Rattle.track.specs.Track.{routeIn, Fit}
 use Rattle.entry.specs.declared.Made.{Made}
-
--- the answer to a call
-abbrev pub answerTo : List ℕ → (source terminal reach allowance size : ℕ) → Answer
-answerTo table source terminal reach allowance size = answer table (record { source = source; terminal = terminal; reach = reach; allowance = allowance }) size
 
 -- what planning finds where there is a route
 pub record Found (routes : List Route) (allowance : ℕ) (m : Made) : Type 0 where

@@ -8,9 +8,10 @@ ghost use Prim.Native.Nat.{_<_, _≤_};
 ghost use lib.ListN.{length};
 ghost use Rattle.problem.specs.Table.{lastNode, mostReach, mostAllowance, mostTableBytes, arcsOf, allSound};
 ghost use Rattle.problem.specs.Routes.{ranking};
-ghost use Rattle.problem.specs.Reply.{after};
+ghost use Rattle.problem.specs.Reply.{request};
+ghost use Rattle.problem.specs.Calls.{Called};
 ghost use Rattle.side.specs.Side.{SideTable};
-ghost use Rattle.entry.specs.Entry.{answerTo, Planned};
+ghost use Rattle.entry.specs.Entry.{Planned};
 
 const NO_ROUTE: u32 = 10;
 
@@ -99,8 +100,7 @@ pub extern "C" fn feshangul_plan(
     reach: u32,
     allowance: u32,
 ) -> u32
-    ensures number { λ r. ⌜ r ≡ answerTo (now (table .entry)) source terminal reach allowance (length (now (reply .entry))) .number ⌝ }
-    ensures buffer { λ _. ⌜ now (reply .exit) ≡ after (answerTo (now (table .entry)) source terminal reach allowance (length (now (reply .entry)))) (now (reply .entry)) ⌝ }
+    ensures { λ r. ⌜ Called (now (table .entry)) (request source terminal reach allowance) (now (reply .entry)) r (now (reply .exit)) ⌝ }
 {
     let n = checks::refusal(table, reply.len(), source, terminal, reach, allowance);
     if n != 0 {

@@ -13,9 +13,9 @@ use lib.Seq.{getD-set-same, getD-set-other}
 use borrow.Author.Count.{below-more}
 use Rattle.laws.specs.Sets.{bit}
 use Rattle.laws.proofs.SetLaws.{bit-and, bit-or, bit-empty, bit-le-one}
+use Rattle.problem.specs.Table.{SoundArc}
 use Rattle.problem.specs.declared.Arc.{Arc}
 use Rattle.problem.specs.Routes.{arcAt, metresOf, risksOf, Way}
-use Rattle.problem.proofs.TableLaws.{SoundArc}
 use Rattle.problem.proofs.WayLaws.{FreeWay}
 use Rattle.side.specs.declared.Entry.{Entry}
 use Rattle.side.specs.declared.Side.{Side}

@@ -1,3 +1,4 @@
+pub mod ByteLaws
 pub mod TableLaws
 pub mod RouteLaws
 pub mod GrowthLaws
@@ -6,7 +7,10 @@ pub mod PairLaws
 pub mod SettleLaws
 pub mod WayLaws
 pub mod ReplyLaws
+pub mod CheckLaws
 pub mod CallLaws
+pub mod SaidLaws
 pub mod Promises
+pub mod CallPromises
 pub mod GrowthOrder
 pub mod WindowLaws

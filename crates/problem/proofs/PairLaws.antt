@@ -9,22 +9,20 @@ use native.Mathlib.Omega.{arith}
 use lib.Bits.{bitAnd, and-comm}
 use lib.Count.{onesIn}
 use lib.Dec.{ltb}
-use lib.ListN.{length, getD, take}
+use lib.ListN.{length, take}
 use lib.Pow.{pow-pos}
-use borrow.Author.Tests.{ltb-true}
+use borrow.Author.Tests.{ltb-true, ltb-false, lt-ltb, le-ltb}
 use Rattle.laws.specs.Choosing.{lexBy}
-use Rattle.laws.specs.Sets.{bit}
-use Rattle.laws.proofs.ListLaws.{getD-mem, getD-take-mem, take-place}
+use Rattle.laws.specs.Sets.{bit, inBoth}
+use Rattle.laws.proofs.ListLaws.{getD-mem, getD-take-mem, take-more, take-mem}
 use Rattle.laws.proofs.OrderLaws.{Total, Weak, total-weak, keyed-weak, ltb-total, lex-total, lex-true, lex-false, lex-lt, lex-eq}
 use Rattle.laws.proofs.FirstLaws.{first-mem, first-least}
 use Rattle.laws.proofs.SortLaws.{Strict, place-order}
-use Rattle.laws.proofs.SetLaws.{bit-zero, bit-suc, bit-and, ones-mono}
+use Rattle.laws.proofs.SetLaws.{bit-zero, bit-suc, bit-and, ones-mono, ones-common}
+use Rattle.problem.specs.Table.{riskWidth}
 use Rattle.problem.specs.Routes.{Route, rankKey, precedes}
-use Rattle.problem.specs.Pairs.{Pair, sharedRisks, sharedCount, total, judgeKey, judged, NoWorse, pairsOf, noRoute, best, commonRisks, floor}
+use Rattle.problem.specs.Pairs.{Pair, pair, sharedRisks, sharedCount, total, judgeKey, judged, NoWorse, pairsOf, noRoute, ofRank, rankedKey, best, commonRisks, floor}
 use Rattle.problem.proofs.RankingLaws.{key-total, precedes-weak}
-
-abbrev pub pair : Route → Route → Pair
-pair m s = record { main = m; standby = s }
 
 -- ---- who is among the pairs
 
@@ -76,16 +74,28 @@ unfolding lexBy
 lex-flat n t n′ t′ x y x′ y′ i k i′ k′ a b c d =
     rw (a, b, c, d) (flat (ltb n n′) (ltb n′ n) (ltb t t′) (ltb t′ t) (ltb i i′ || (not (ltb i′ i) && (ltb k k′ || (not (ltb k′ k) && false)))))
 
--- the key of a pair of ranks
-abbrev pub rankedKey : List Route → ℕ → ℕ → List ℕ
-rankedKey routes m s = let p : Pair = pair (getD routes m noRoute) (getD routes s noRoute) in sharedCount p ∷ total p ∷ m ∷ s ∷ []
+-- a step of the ranking
+pub record Step (routes : List Route) (j : ℕ) : Type 0 where
+  pub from-one : 0 < j
+  pub to-N : j ≤ length routes
 
-pub judged-by-rank : (routes : List Route) → Strict precedes routes → (m s m′ s′ : ℕ) → m < length routes → s < length routes → m′ < length routes → s′ < length routes
-    → judged (pair (getD routes m noRoute) (getD routes s noRoute)) (pair (getD routes m′ noRoute) (getD routes s′ noRoute)) ≡ lexBy ltb (rankedKey routes m s) (rankedKey routes m′ s′)
+ltb-pred : (i k : ℕ) → 0 < i → 0 < k → ltb (i - 1) (k - 1) ≡ ltb i k
+ltb-pred i k h b = go (ltb i k) refl
+  where
+    go : (s : Bool) → ltb i k ≡ s → ltb (i - 1) (k - 1) ≡ ltb i k
+    go true e = lt-ltb (i - 1) (k - 1) (omega (arith, ltb-true i k e)) ∙ sym e
+    go false e = le-ltb (i - 1) (k - 1) (omega (arith, ltb-false i k e)) ∙ sym e
+
+-- the judgement by the routes' own order is 01's judgement by rank
+pub judged-by-rank : (routes : List Route) → Strict precedes routes → {m s m′ s′ : ℕ} → Step routes m → Step routes s → Step routes m′ → Step routes s′
+    → judged (pair (ofRank routes m) (ofRank routes s)) (pair (ofRank routes m′) (ofRank routes s′)) ≡ lexBy ltb (rankedKey routes m s) (rankedKey routes m′ s′)
 unfolding judged judgeKey precedes
-judged-by-rank routes strict m s m′ s′ a b c d =
-    let place : (i k : ℕ) → i < length routes → k < length routes → lexBy ltb (rankKey (getD routes i noRoute)) (rankKey (getD routes k noRoute)) ≡ ltb i k = place-order precedes precedes-weak noRoute routes strict in
-    lex-flat _ _ _ _ _ _ _ _ m s m′ s′ (place m m′ a c) (place m′ m c a) (place s s′ b d) (place s′ s d b)
+judged-by-rank routes strict {m} {s} {m′} {s′} a b c d = lex-flat _ _ _ _ _ _ _ _ m s m′ s′ (place a c) (place c a) (place b d) (place d b)
+  where
+    place : {i k : ℕ} → Step routes i → Step routes k → lexBy ltb (rankKey (ofRank routes i)) (rankKey (ofRank routes k)) ≡ ltb i k
+    place {i} {k} x y =
+        place-order precedes precedes-weak noRoute routes strict (i - 1) (k - 1) (omega (arith, x .from-one, x .to-N)) (omega (arith, y .from-one, y .to-N))
+        ∙ ltb-pred i k (x .from-one) (y .from-one)
 
 -- what the first place of the judgement says
 pub judged-no-worse : (p q : Pair) → judged q p ≡ false → NoWorse (sharedCount p) (total p) (sharedCount q) (total q)
@@ -112,6 +122,18 @@ judged-no-worse p q h = go (lex-false (lexBy ltb) key-total _ _ _ _ h)
         let m : total q ≡ total p = head-eq-of-cons-eq (tail-eq-of-cons-eq (e .0)) in
         NoWorse.as-many (sym n) (omega arith)
 
+-- ---- routes with fewer risks share no more
+
+pub shared-mono : (p q : Pair) → ((b : ℕ) → bit (p .main .risks) b ≤ bit (q .main .risks) b) → ((b : ℕ) → bit (p .standby .risks) b ≤ bit (q .standby .risks) b) → sharedCount p ≤ sharedCount q
+unfolding sharedCount sharedRisks
+shared-mono p q f g =
+    ones-mono riskWidth (bitAnd (p .main .risks) (p .standby .risks)) (bitAnd (q .main .risks) (q .standby .risks)) (λ b. simp bit-and (omega (arith, f b, g b)))
+
+-- the shared count is the size of the common risk set: how many of the 64 risks are on both routes
+pub shared-size : (p : Pair) → sharedCount p ≡ length (inBoth riskWidth (p .main .risks) (p .standby .risks))
+unfolding sharedCount sharedRisks
+shared-size p = ones-common riskWidth (p .main .risks) (p .standby .risks)
+
 -- ---- the same two routes the other way round
 
 pub swap-shared : (m s : Route) → sharedCount (pair m s) ≡ sharedCount (pair s m)
@@ -133,36 +155,26 @@ swap-judged m s e =
 -- ---- the best pair of a step
 
 module _ (routes : List Route) where
-  -- a step of the ranking
-  pub record Step (j : ℕ) : Type 0 where
-    pub from-one : 0 < j
-    pub to-N : j ≤ length routes
-
   -- no pair with its main among the first j precedes best(j)
   pub best-least : (j : ℕ) {m s : Route} → List·Memᴰ m (take j routes) → List·Memᴰ s routes → judged (pair m s) (best routes j) ≡ false
   unfolding best
   best-least j p q = first-least judged judged-weak (pair noRoute noRoute) (pairs-in p q)
 
   -- best(j) is one of them
-  pub best-mem : {j : ℕ} → Step j → List·Memᴰ (best routes j .main) (take j routes) × List·Memᴰ (best routes j .standby) routes
+  pub best-mem : {j : ℕ} → Step routes j → List·Memᴰ (best routes j .main) (take j routes) × List·Memᴰ (best routes j .standby) routes
   unfolding best
   best-mem {j} s =
       let m = getD-take-mem noRoute j routes 0 (s .from-one) (omega arith) in
       pairs-out (take j routes) routes (first-mem judged (pair noRoute noRoute) (pairs-in m (getD-mem noRoute routes 0 (omega arith))))
 
-  pub take-mem : (j : ℕ) {r : Route} → List·Memᴰ r (take j routes) → List·Memᴰ r routes
-  take-mem j m = let e = take-place noRoute j routes m in Memᴰ·cast (e .is) (getD-mem noRoute routes (e .at) (e .inside))
-
-  pub best-main : {j : ℕ} → Step j → List·Memᴰ (best routes j .main) routes
-  best-main {j} s = take-mem j (best-mem s .0)
+  pub best-main : {j : ℕ} → Step routes j → List·Memᴰ (best routes j .main) routes
+  best-main {j} s = take-mem noRoute j (best-mem s .0)
 
   -- with more mains the best pair is no worse
-  pub best-mono : {i j : ℕ} → Step i → i ≤ j → NoWorse (sharedCount (best routes j)) (total (best routes j)) (sharedCount (best routes i)) (total (best routes i))
+  pub best-mono : {i j : ℕ} → Step routes i → i ≤ j → NoWorse (sharedCount (best routes j)) (total (best routes j)) (sharedCount (best routes i)) (total (best routes i))
   best-mono {i} {j} s l =
       let m = best-mem s in
-      let e = take-place noRoute i routes (m .0) in
-      judged-no-worse (best routes j) (best routes i)
-      (best-least j (Memᴰ·cast (e .is) (getD-take-mem noRoute j routes (e .at) (omega (arith, e .early)) (e .inside))) (m .1))
+      judged-no-worse (best routes j) (best routes i) (best-least j (take-more noRoute routes l (m .0)) (m .1))
 
 -- ---- the floor
 

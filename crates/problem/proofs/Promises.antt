@@ -1,80 +1,195 @@
--- The promises: what the customer's demands say of every call, as theorems over the definitions of specs/. Nothing below this page needs to be read to know what is promised.
--- A call has a table of any bytes, a request of any numbers, and a reply buffer of any size; `answer` gives its number and the bytes that it writes. Assumes nothing.
-use mathlib.Core.Path.{_≡_, sym, ap, _∙_}
-use mathlib.Core.Bool.{false}
-use mathlib.Core.Logic.{_↔_}
-use mathlib.Core.List.{List, _++_}
-use Prim.Native.Nat.{ℕ, _+_, _≤_, _<_}
+-- The promises: the customer's three demands of every call, as theorems over the definitions of specs/. To know what is promised nothing else needs to be read.
+-- A call has a table of any bytes, a request of any numbers and a reply buffer of any size; `answer` gives its number and the bytes that it writes.
+-- CallPromises.antt says the same of calls of the entry itself, by the number returned and the bytes in the buffer; the entry ends for every call. Assumes nothing.
+use mathlib.Core.Path.{_≡_, refl, sym, ap, _∙_, subst}
+use mathlib.Core.Bool.{Bool, true, false}
+use mathlib.Core.Logic.{_⊎_, _↔_}
+use mathlib.Core.List.{List, _++_, List·Memᴰ}
+use Prim.Native.Nat.{ℕ, _*_, _≤_, _<_, min}
 use native.Mathlib.Omega.{arith}
-use lib.Bits.{bitAnd}
-use lib.Count.{onesIn}
-use lib.ListN.{length, drop}
+use lib.Dec.{ltb}
+use lib.ListN.{length, take, drop}
 use lib.Seq.{drop-append-seam}
-use Rattle.problem.specs.Table.{mostAllowance, replySize, arcsOf}
-use Rattle.problem.specs.Routes.{IsRoute, Way, metresOf, risksOf, precedes}
-use Rattle.problem.specs.Pairs.{NoWorse, leastSettled}
-use Rattle.problem.specs.Reply.{Request, refusal, answer, after}
-use Rattle.problem.proofs.ReplyLaws.{routesOf, chosen, refusal-passed}
-use Rattle.problem.proofs.CallLaws.{sharedIn, totalIn, allowing, low-number, some-route, high-number, number-range, ten-none, none-ten, settled-number, stopped-number, same-answer, no-worse-pair, no-better-ways, main-first, reply-size, enough}
+use borrow.Author.Tests.{ltb-true, ltb-false}
+use Rattle.laws.specs.Choosing.{Pairwise, lexBy}
+use Rattle.laws.specs.Sets.{inBoth}
+use Rattle.problem.specs.declared.Arc.{Arc}
+use Rattle.problem.specs.Table.{riskWidth, mostAllowance, replySize, Bytes, arcsOf}
+use Rattle.problem.specs.Routes.{Route, metresOf, routeOf, precedes}
+use Rattle.problem.specs.Pairs.{Pair, pair, sharedRisks, sharedCount, total, judged, NoWorse, ofRank, rankedKey, floor, leastSettled, ranked}
+use Rattle.problem.specs.Reply.{Request, answer, after, verdictIn, sharedIn, floorIn, rankedIn, mainMetresIn, standbyMetresIn, totalIn, sharedRisksIn, mainIn, standbyIn}
+use Rattle.problem.specs.Printed.{kilometres}
+use Rattle.problem.specs.Calls.{routesOf, RouteOf, WayOf, pairMadeOf, pairSaid, allowing, Applies}
+use Rattle.problem.proofs.RankingLaws.{ranking-exact, ranking-strict}
+use Rattle.problem.proofs.PairLaws as PairLaws
+use Rattle.problem.proofs.ReplyLaws.{sound-heads}
+use Rattle.problem.proofs.CallLaws.{low-number, high-number, number-range, refused-told, answered-none, numbered}
+use Rattle.problem.proofs.SaidLaws as Said
 
 module _ (table : List ℕ) (q : Request) (size : ℕ) where
-  -- ---- demand 1: refused by number, in order, and a refusal changes no byte
+  -- the number returned, and the bytes written
+  abbrev number : ℕ
+  number = answer table q size .number
+
+  abbrev reply : List ℕ
+  reply = answer table q size .reply
+
+  abbrev arcs : List Arc
+  arcs = arcsOf table
+
+  abbrev routes : List Route
+  routes = routesOf table q
+
+  -- ==== Demand 1. "For every table, request and reply buffer the planner ends and answers; it checks everything itself, in a fixed order,
+  -- ==== refuses by number, and a refusal changes no byte of the reply; 'no route' exactly when none fits the reach."
+
+  -- each number is given exactly where its own test holds and that of no smaller number
+  pub checked-in-order : (n : ℕ) → 2 ≤ n → (number ≡ n) ↔ (Applies table q size n × ((i : ℕ) → i < n → Applies table q size i → ⊥))
+  checked-in-order = numbered table q size
+
+  -- a call is answered exactly where no test holds
+  pub answered-exactly : (number < 2) ↔ ((i : ℕ) → Applies table q size i → ⊥)
+  answered-exactly = (λ h i a. answered-none table q size h a, λ f. go f (ltb number 2) refl)
+    where
+      go : ((i : ℕ) → Applies table q size i → ⊥) → (b : Bool) → ltb number 2 ≡ b → number < 2
+      go f true e = ltb-true number 2 e
+      go f false e = absurd (f number (refused-told table q size (ltb-false number 2 e) .applies))
+
+  -- "no route" exactly where, no earlier test holding, no route fits the reach
+  pub ten-exactly : ((i : ℕ) → i < 10 → Applies table q size i → ⊥) → (number ≡ 10) ↔ ((ks : List ℕ) → RouteOf table q ks → ⊥)
+  ten-exactly below = (λ e. fits (numbered table q size 10 (omega arith) .0 e .0), λ f. numbered table q size 10 (omega arith) .1 (Applies.no-route f, below))
+    where
+      fits : Applies table q size 10 → (ks : List ℕ) → RouteOf table q ks → ⊥
+      fits (Applies.no-route f) = f
+
+  -- number 11 is never given
+  pub never-eleven : number ≡ 11 → ⊥
+  never-eleven e = omega (arith, number-range table q size)
 
   -- a refusal leaves every byte of the buffer
-  pub refusal-keeps-buffer : 2 ≤ answer table q size .number → (buffer : List ℕ) → after (answer table q size) buffer ≡ buffer
+  pub refusal-keeps-buffer : 2 ≤ number → (buffer : List ℕ) → after (answer table q size) buffer ≡ buffer
   unfolding after
   refusal-keeps-buffer h buffer = rw (high-number table q size h)
 
   -- an answer writes 96 bytes and leaves those behind them
-  pub answer-writes-96 : answer table q size .number < 2 → length (answer table q size .reply) ≡ replySize
-  answer-writes-96 h = reply-size (low-number table q size h)
+  pub answer-writes-96 : number < 2 → length reply ≡ replySize
+  answer-writes-96 h = Said.reply-size (low-number table q size h)
 
-  pub answer-keeps-rest : answer table q size .number < 2 → (buffer : List ℕ) → drop replySize (after (answer table q size) buffer) ≡ drop replySize buffer
+  pub answer-keeps-rest : number < 2 → (buffer : List ℕ) → drop replySize (after (answer table q size) buffer) ≡ drop replySize buffer
   unfolding after
   answer-keeps-rest h buffer =
       let e = answer-writes-96 h in
-      ap (λ (n : ℕ). drop n (answer table q size .reply ++ drop (length (answer table q size .reply)) buffer)) (sym e)
-      ∙ drop-append-seam (answer table q size .reply) (drop (length (answer table q size .reply)) buffer)
-      ∙ ap (λ (n : ℕ). drop n buffer) e
+      ap (λ (n : ℕ). drop n (reply ++ drop (length reply) buffer)) (sym e) ∙ drop-append-seam reply (drop (length reply) buffer) ∙ ap (λ (n : ℕ). drop n buffer) e
 
-  -- number 10 exactly where, the earlier checks passed, no route fits the reach
-  pub ten-exactly : refusal table q size ≡ 0 → (answer table q size .number ≡ 10) ↔ ((ks : List ℕ) → IsRoute (arcsOf table) (q .source) (q .terminal) (q .reach) ks → ⊥)
-  ten-exactly passed = (ten-none table q size, none-ten table q size passed)
+  -- ==== Demand 2. "Of pairs whose main is among the first `allowance` routes of the ranking and whose standby is any route: fewest shared risks,
+  -- ==== then least total, then first in the ranking; metres are added, kilometres rounded up once per route."
 
-  -- number 11 is never given
-  pub never-eleven : answer table q size .number ≡ 11 → ⊥
-  never-eleven e = omega (arith, number-range table q size)
+  -- the ranking puts each route before all later ones, and the judgement of pairs is that of shared count, total, rank of the main, rank of the standby
+  pub ranking-in-order : Pairwise (λ (r s : Route). precedes r s ≡ true) routes
+  ranking-in-order = ranking-strict arcs (q .source) (q .terminal) (q .reach)
 
-  -- ---- demand 3: what "settled" promises
+  pub judged-by-rank : (m s m′ s′ : ℕ) → 0 < m → m ≤ length routes → 0 < s → s ≤ length routes → 0 < m′ → m′ ≤ length routes → 0 < s′ → s′ ≤ length routes
+      → judged (pair (ofRank routes m) (ofRank routes s)) (pair (ofRank routes m′) (ofRank routes s′)) ≡ lexBy ltb (rankedKey routes m s) (rankedKey routes m′ s′)
+  judged-by-rank m s m′ s′ a b c d e f g h =
+      PairLaws.judged-by-rank routes ranking-in-order (record { from-one = a; to-N = b }) (record { from-one = c; to-N = d }) (record { from-one = e; to-N = f }) (record { from-one = g; to-N = h })
 
-  -- settled exactly where the least settled step is within the allowance; else stopped
-  pub settled-exactly : answer table q size .number < 2 → (answer table q size .number ≡ 0) ↔ (leastSettled (routesOf table q) ≤ q .allowance)
-  settled-exactly h = settled-number (low-number table q size h)
+  module _ (answered : number < 2) where
+    -- the ranking has every route and nothing else
+    pub ranking-has : (ks : List ℕ) → List·Memᴰ (routeOf arcs ks) routes ↔ RouteOf table q ks
+    ranking-has ks =
+        let p = low-number table q size answered .passed in
+        ranking-exact arcs (q .source) (q .terminal) (q .reach) (sound-heads arcs (p .sound)) (omega (arith, p .source-node)) ks
 
-  pub stopped-exactly : answer table q size .number < 2 → (answer table q size .number ≡ 1) ↔ (q .allowance < leastSettled (routesOf table q))
-  stopped-exactly h = stopped-number (low-number table q size h)
+    -- the arc numbers in the bytes are routes
+    pub reply-routes : RouteOf table q (mainIn reply) × RouteOf table q (standbyIn reply)
+    reply-routes = Said.said-routes (low-number table q size answered)
 
-  -- settled: no two ways within reach, loops or the same way twice allowed, share fewer risks, or equally many at a smaller total
-  pub settled-no-better : answer table q size .number ≡ 0 → (v w : List ℕ)
-      → Way (arcsOf table) (q .source) (q .terminal) v → metresOf (arcsOf table) v ≤ q .reach
-      → Way (arcsOf table) (q .source) (q .terminal) w → metresOf (arcsOf table) w ≤ q .reach
-      → NoWorse (sharedIn (answer table q size)) (totalIn (answer table q size))
-      (onesIn 64 (bitAnd (risksOf (arcsOf table) v) (risksOf (arcsOf table) w))) (metresOf (arcsOf table) v + metresOf (arcsOf table) w)
-  settled-no-better e v w = no-better-ways (low-number table q size (omega arith)) e {u = v} {v = w}
+    -- of exactly the metres that the bytes say
+    pub reply-metres : (mainMetresIn reply ≡ metresOf arcs (mainIn reply)) × (standbyMetresIn reply ≡ metresOf arcs (standbyIn reply))
+    reply-metres = Said.said-metres (low-number table q size answered)
 
-  -- settled: every larger permitted allowance gives the same number and the same 96 bytes
-  pub settled-stays : answer table q size .number ≡ 0 → (b : ℕ) → q .allowance ≤ b → b ≤ mostAllowance → answer table (allowing q b) size ≡ answer table q size
-  settled-stays e b = same-answer (low-number table q size (omega arith)) e b
+    -- that share as many as the bytes say, and just those risks
+    pub reply-shared : sharedIn reply ≡ sharedCount (pairSaid arcs reply)
+    reply-shared = Said.said-shared (low-number table q size answered)
 
-  -- a larger permitted allowance never gives a worse reply
-  pub never-worse : answer table q size .number < 2 → (b : ℕ) → q .allowance ≤ b → b ≤ mostAllowance
-      → NoWorse (sharedIn (answer table (allowing q b) size)) (totalIn (answer table (allowing q b) size)) (sharedIn (answer table q size)) (totalIn (answer table q size))
-  never-worse h b = no-worse-pair (low-number table q size h) b
+    pub reply-risks : Bytes table → sharedRisksIn reply ≡ sharedRisks (pairSaid arcs reply)
+    reply-risks = Said.said-risks (low-number table q size answered)
 
-  -- an allowance of at least N settles
-  pub all-routes-settle : refusal table q size ≡ 0 → 0 < length (routesOf table q) → length (routesOf table q) ≤ q .allowance → answer table q size .number ≡ 0
-  all-routes-settle passed some all = enough (some-route table q size (refusal-passed table q size passed) some) all
+    -- the main is among the first `allowance` routes, the standby is any route
+    pub main-allowed : List·Memᴰ (pairSaid arcs reply .main) (take (q .allowance) routes)
+    main-allowed = let w = low-number table q size answered in subst (λ (p : Pair). List·Memᴰ (p .main) (take (q .allowance) routes)) (sym (Said.said-is w)) (Said.main-allowed w)
 
-  -- the main's rank never exceeds the standby's
-  pub main-not-behind : answer table q size .number < 2 → precedes (chosen table q .standby) (chosen table q .main) ≡ false
-  main-not-behind h = main-first (low-number table q size h)
+    pub standby-any : List·Memᴰ (pairSaid arcs reply .standby) routes
+    standby-any = let w = low-number table q size answered in subst (λ (p : Pair). List·Memᴰ (p .standby) routes) (sym (Said.said-is w)) (Said.standby-listed w)
+
+    -- no such pair comes before it
+    pub none-before : (m s : Route) → List·Memᴰ m (take (q .allowance) routes) → List·Memᴰ s routes → judged (pair m s) (pairSaid arcs reply) ≡ false
+    none-before m s x y = let w = low-number table q size answered in rw (Said.said-is w) (Said.none-before w x y)
+
+    -- every other such pair comes after it
+    pub others-after : (m s : Route) → List·Memᴰ m (take (q .allowance) routes) → List·Memᴰ s routes → (pair m s ≡ pairSaid arcs reply) ⊎ (judged (pairSaid arcs reply) (pair m s) ≡ true)
+    others-after m s x y = let w = low-number table q size answered in rw (Said.said-is w) (Said.others-after w x y)
+
+    -- the main's rank never exceeds the standby's
+    pub main-not-behind : precedes (pairSaid arcs reply .standby) (pairSaid arcs reply .main) ≡ false
+    main-not-behind = let w = low-number table q size answered in subst (λ (p : Pair). precedes (p .standby) (p .main) ≡ false) (sym (Said.said-is w)) (Said.main-first w)
+
+    -- ==== Demand 3. "'Settled' exactly by 01's rule, and then: no two ways within reach, loops or the same way twice allowed, do better;
+    -- ==== every larger permitted allowance gives the same reply; unsettled replies never get worse; an allowance of at least N settles."
+
+    -- the numbers of the reply: the verdict is the number returned, the floor is that of all routes, and ranked is the smaller of J and the allowance
+    pub verdict-said : verdictIn reply ≡ number
+    verdict-said = Said.verdict-in (low-number table q size answered)
+
+    pub floor-said : floorIn reply ≡ floor routes
+    floor-said = Said.floor-in (low-number table q size answered)
+
+    pub ranked-said : rankedIn reply ≡ min (leastSettled routes) (q .allowance)
+    unfolding ranked
+    ranked-said = Said.ranked-in (low-number table q size answered)
+
+    -- settled exactly where every route was tried as main, or the pair shares only what lies on every route and twice the length of the last main tried is at least its total
+    pub settled-exactly : (number ≡ 0)
+        ↔ ((rankedIn reply ≡ length routes) ⊎ ((sharedCount (pairSaid arcs reply) ≡ floor routes) × (total (pairSaid arcs reply) ≤ 2 * ofRank routes (rankedIn reply) .metres)))
+    settled-exactly = let w = low-number table q size answered in rw (Said.said-is w, Said.ranked-in w) (Said.settled-tests w)
+
+    -- exactly where J is within the allowance; else stopped
+    pub settled-within : (number ≡ 0) ↔ (leastSettled routes ≤ q .allowance)
+    settled-within = Said.settled-number (low-number table q size answered)
+
+    pub stopped-past : (number ≡ 1) ↔ (q .allowance < leastSettled routes)
+    stopped-past = Said.stopped-number (low-number table q size answered)
+
+    -- settled: no two ways within reach, loops or the same way twice allowed, share fewer, or as many at a smaller total
+    pub settled-no-better : number ≡ 0 → (u v : List ℕ) → WayOf table q u → WayOf table q v
+        → NoWorse (sharedIn reply) (totalIn reply) (sharedCount (pairMadeOf arcs u v)) (total (pairMadeOf arcs u v))
+    settled-no-better e u v = Said.no-better-ways (low-number table q size answered) e {u = u} {v = v}
+
+    -- an allowance of at least N settles
+    pub all-routes-settle : length routes ≤ q .allowance → number ≡ 0
+    all-routes-settle = Said.enough (low-number table q size answered)
+
+    -- and for every larger permitted allowance:
+    module _ (b : ℕ) (more : q .allowance ≤ b) (permitted : b ≤ mostAllowance) where
+      -- settled: the same number and the same 96 bytes
+      pub settled-stays : number ≡ 0 → answer table (allowing q b) size ≡ answer table q size
+      settled-stays = Said.same-answer (low-number table q size answered) b more permitted
+
+      -- settled or stopped: answered, no worse, and by the whole judgement no later
+      pub never-worse : (answer table (allowing q b) size .number < 2)
+          × NoWorse (sharedIn (answer table (allowing q b) size .reply)) (totalIn (answer table (allowing q b) size .reply)) (sharedIn reply) (totalIn reply)
+          × (judged (pairSaid arcs reply) (pairSaid arcs (answer table (allowing q b) size .reply)) ≡ false)
+      never-worse =
+          let w = low-number table q size answered in
+          (Said.larger-answered w b more permitted, Said.no-worse-pair w b more permitted, rw (Said.said-is w, Said.said-is (Said.pair-allowing b w more permitted)) (Said.no-later w b more permitted))
+
+-- ==== Of any pair, and of any length
+
+-- the shared count is the size of the common risk set: of the 64 risks, how many are on both routes
+pub shared-size : (p : Pair) → sharedCount p ≡ length (inBoth riskWidth (p .main .risks) (p .standby .risks))
+shared-size = PairLaws.shared-size
+
+-- rounded up: the fewest whole kilometres that the metres fit into
+pub kilometres-up : (metres k : ℕ) → (kilometres metres ≤ k) ↔ (metres ≤ 1000 * k)
+unfolding kilometres
+kilometres-up metres k = (λ h. omega arith, λ h. omega arith)

@@ -5,14 +5,17 @@ use mathlib.Core.List.{List, [], _∷_, List·Memᴰ}
 use Prim.Native.Nat.{ℕ, zero, suc, _-_, _/_, _%_, _^_, _≤_, _<_}
 use native.Mathlib.Omega.{arith}
 use lib.Dec.{eqb, ltb}
-use lib.ListN.{length, getD, length-append, length-replicate}
+use lib.ListN.{length, take, replicate, length-append, length-replicate}
+use lib.Seq.{take-append-seam, take-append-le, drop-at}
 use borrow.Author.Tests.{ltb-false, le-ltb, eqb-true, eqb-false, eq-eqb, ne-eqb, not-false}
 use Rattle.laws.specs.Choosing.{if_then_else_}
 use Rattle.problem.specs.declared.Arc.{Arc}
-use Rattle.problem.specs.Table.{lastNode, mostArcs, mostReach, mostAllowance, mostTableBytes, replySize, numberAt, bytesOf, arcsOf, arcsNumber, allSound}
-use Rattle.problem.specs.Routes.{Route, routeOf, ranking}
-use Rattle.problem.specs.Pairs.{Pair, sharedCount, best, floor, ranked, verdict}
-use Rattle.problem.specs.Reply.{Request, Answer, refuse, placesOf, replyOf, refusal, planned, answerUnless, answer}
+use Rattle.problem.specs.Table.{lastNode, mostArcs, mostReach, mostAllowance, mostTableBytes, replySize, bytesOf, arcsOf, arcsNumber, allSound}
+use Rattle.problem.specs.Routes.{Route, routeOf}
+use Rattle.problem.specs.Pairs.{Pair, sharedRisks, sharedCount, best, floor, ranked, verdict}
+use Rattle.problem.specs.Reply.{Request, Answer, refuse, placesOf, replyOf, verdictIn, sharedIn, floorIn, rankedIn, mainMetresIn, standbyMetresIn, sharedRisksIn, mainIn, standbyIn, refusal, planned, answerUnless, answer}
+use Rattle.problem.specs.Calls.{routesOf, chosen}
+use Rattle.problem.proofs.ByteLaws.{field-at}
 use Rattle.problem.proofs.TableLaws.{sound-at, sound-number, number-sound, number-nine}
 use Rattle.problem.proofs.RankingLaws.{LowHeads, ranking-out}
 use Rattle.problem.proofs.PairLaws.{Step, best-mem, best-main}
@@ -37,7 +40,7 @@ not-first : (b : Bool) (n r : ℕ) → (if b then suc n else r) ≡ 0 → (b ≡
 not-first true n r e = absurd (omega arith)
 not-first false n r e = (refl, e)
 
-neither : (a b : Bool) → (a || b) ≡ false → (a ≡ false) × (b ≡ false)
+pub neither : (a b : Bool) → (a || b) ≡ false → (a ≡ false) × (b ≡ false)
 neither true b e = absurd (true≢false e)
 neither false b e = (refl, e)
 
@@ -102,14 +105,6 @@ refusal-number table q size n e =
 
 -- ---- how a call ends
 
--- the routes of a call, in their ranking
-abbrev pub routesOf : List ℕ → Request → List Route
-routesOf table q = ranking (arcsOf table) (q .source) (q .terminal) (q .reach)
-
--- the pair of the answer
-abbrev pub chosen : List ℕ → Request → Pair
-chosen table q = best (routesOf table q) (ranked (routesOf table q) (q .allowance))
-
 -- the answer where there is a route
 abbrev pub answered : List ℕ → Request → Answer
 answered table q =
@@ -171,31 +166,6 @@ outcome table q size = by-number (refusal table q size) refl
 
 -- ---- the fields of a reply, read back
 
-module _ (v low r : ℕ) (p : Pair) where
-  pub reply-verdict : getD (replyOf v low r p) 0 0 ≡ v
-  unfolding replyOf
-  reply-verdict = refl
-
-  pub reply-shared : getD (replyOf v low r p) 1 0 ≡ sharedCount p
-  unfolding replyOf
-  reply-shared = refl
-
-  pub reply-floor : getD (replyOf v low r p) 2 0 ≡ low
-  unfolding replyOf
-  reply-floor = refl
-
-  pub reply-ranked : r < 2 ^ 32 → numberAt (replyOf v low r p) 8 4 ≡ r
-  unfolding replyOf numberAt bytesOf
-  reply-ranked h = omega arith
-
-  pub reply-main-metres : p .main .metres < 2 ^ 32 → numberAt (replyOf v low r p) 12 4 ≡ p .main .metres
-  unfolding replyOf numberAt bytesOf
-  reply-main-metres h = omega arith
-
-  pub reply-standby-metres : p .standby .metres < 2 ^ 32 → numberAt (replyOf v low r p) 16 4 ≡ p .standby .metres
-  unfolding replyOf numberAt bytesOf
-  reply-standby-metres h = omega arith
-
 length-bytes : (n x : ℕ) → length (bytesOf n x) ≡ n
 unfolding bytesOf
 length-bytes zero x = refl
@@ -204,6 +174,53 @@ length-bytes (suc n) x = ap suc (length-bytes n (x / 256))
 length-places : (r : Route) → length (r .arcs) ≤ mostArcs → length (placesOf r) ≡ 32
 unfolding placesOf
 length-places r h = simp (length-append, length-replicate) (omega arith)
+
+long-places : (r : Route) → length (r .arcs) ≤ length (placesOf r)
+unfolding placesOf
+long-places r = simp length-append (omega arith)
+
+take-places : (r : Route) → take (length (r .arcs)) (placesOf r) ≡ r .arcs
+unfolding placesOf
+take-places r = take-append-seam (r .arcs) (replicate (32 - length (r .arcs)) 255)
+
+module _ (v low r : ℕ) (p : Pair) where
+  pub reply-verdict : verdictIn (replyOf v low r p) ≡ v
+  unfolding replyOf
+  reply-verdict = refl
+
+  pub reply-shared : sharedIn (replyOf v low r p) ≡ sharedCount p
+  unfolding replyOf
+  reply-shared = refl
+
+  pub reply-floor : floorIn (replyOf v low r p) ≡ low
+  unfolding replyOf
+  reply-floor = refl
+
+  pub reply-ranked : r < 2 ^ 32 → rankedIn (replyOf v low r p) ≡ r
+  unfolding replyOf bytesOf
+  reply-ranked h = field-at (replyOf v low r p) _ 8 4 r refl h
+
+  pub reply-main-metres : p .main .metres < 2 ^ 32 → mainMetresIn (replyOf v low r p) ≡ p .main .metres
+  unfolding replyOf bytesOf
+  reply-main-metres h = field-at (replyOf v low r p) _ 12 4 (p .main .metres) refl h
+
+  pub reply-standby-metres : p .standby .metres < 2 ^ 32 → standbyMetresIn (replyOf v low r p) ≡ p .standby .metres
+  unfolding replyOf bytesOf
+  reply-standby-metres h = field-at (replyOf v low r p) _ 16 4 (p .standby .metres) refl h
+
+  pub reply-shared-risks : sharedRisks p < 2 ^ 64 → sharedRisksIn (replyOf v low r p) ≡ sharedRisks p
+  unfolding replyOf bytesOf
+  reply-shared-risks h = field-at (replyOf v low r p) _ 24 8 (sharedRisks p) refl h
+
+  pub reply-main : mainIn (replyOf v low r p) ≡ p .main .arcs
+  unfolding replyOf bytesOf
+  reply-main = take-append-le (length (p .main .arcs)) (placesOf (p .main)) (placesOf (p .standby)) (long-places (p .main)) ∙ take-places (p .main)
+
+  pub reply-standby : length (p .main .arcs) ≤ mostArcs → standbyIn (replyOf v low r p) ≡ p .standby .arcs
+  unfolding replyOf bytesOf
+  reply-standby h =
+      ap (take (length (p .standby .arcs))) (drop-at (placesOf (p .main)) (placesOf (p .standby)) 32 (length-places (p .main) h))
+      ∙ take-places (p .standby)
 
 pub reply-length : (v low r : ℕ) (p : Pair) → length (p .main .arcs) ≤ mostArcs → length (p .standby .arcs) ≤ mostArcs → length (replyOf v low r p) ≡ replySize
 unfolding replyOf

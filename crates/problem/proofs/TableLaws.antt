@@ -2,20 +2,22 @@
 use mathlib.Core.Path.{_≡_, refl, ap, _∙_}
 use mathlib.Core.Bool.{Bool, true, false, _||_, not}
 use mathlib.Core.List.{List, [], _∷_}
-use Prim.Native.Nat.{ℕ, zero, suc, _+_, _*_, _/_, _≤_, _<_}
+use Prim.Native.Nat.{ℕ, zero, suc, _+_, _*_, _/_, _^_, _≤_, _<_, suc-le-suc}
 use native.Mathlib.Nat.{not-suc-le-zero, le-of-suc-le-suc}
 use native.Mathlib.Numerals.{add-one}
 use native.Mathlib.Omega.{arith}
+use lib.Bits.{or-lt}
 use lib.Dec.{eqb, ltb}
-use lib.ListN.{length, take, drop}
+use lib.ListN.{length, take, drop, List·getD-eq-default}
 use lib.Seq.{drop-cons, drop-drop, drop-length}
-use borrow.Author.Tests.{ltb-false, eqb-true, eqb-false, eq-eqb, ne-eqb}
+use borrow.Author.Tests.{ltb-true, ltb-false, le-ltb, eqb-true, eqb-false, eq-eqb, ne-eqb}
 use Rattle.laws.specs.Choosing.{if_then_else_}
 use Rattle.problem.specs.declared.Arc.{Arc}
 use Rattle.problem.specs.declared.Fault.{Fault}
 use Rattle.problem.specs.declared.Fault.the-variants.{Sound, Node, EqualEnds, Length, Spare}
-use Rattle.problem.specs.Table.{lastNode, mostArcMetres, arcOf, firstArcs, arcsOf, faultOf, faultNumber, arcsNumber, allSound}
-use Rattle.problem.specs.Routes.{arcAt}
+use Rattle.problem.specs.Table.{lastNode, riskWidth, mostArcMetres, Bytes, arcOf, firstArcs, arcsOf, SoundArc, faultOf, faultNumber, arcsNumber, allSound}
+use Rattle.problem.specs.Routes.{arcAt, risksOf}
+use Rattle.problem.proofs.ByteLaws.{number-below, bytes-part}
 
 -- one arc for every 16 bytes
 length-first : (n : ℕ) (table : List ℕ) → length (firstArcs n table) ≡ n
@@ -43,13 +45,22 @@ pub arcs-at : (table : List ℕ) (k : ℕ) → 16 * k + 16 ≤ length table → 
 unfolding arcsOf
 arcs-at table k h = first-at (length table / 16) k table (omega arith)
 
--- an arc whose every field is in its range
-pub record SoundArc (a : Arc) : Type 0 where
-  pub tail-node : a .tail ≤ lastNode
-  pub head-node : a .head ≤ lastNode
-  pub ends-differ : a .tail ≡ a .head → ⊥
-  pub metres-range : a .metres ≤ mostArcMetres
-  pub spare-zero : a .spare ≡ 0
+-- no risk of an arc, or of a list of arcs, is past 63
+module _ (table : List ℕ) (bytes : Bytes table) where
+  arc-risks-below : (k : ℕ) → arcAt (arcsOf table) k .risks < 2 ^ riskWidth
+  unfolding arcOf
+  arc-risks-below k = go (ltb k (length table / 16)) refl
+    where
+      go : (b : Bool) → ltb k (length table / 16) ≡ b → arcAt (arcsOf table) k .risks < 2 ^ riskWidth
+      go true e =
+          let h = ltb-true k (length table / 16) e in
+          omega (arith, ap (λ (a : Arc). a .risks) (arcs-at table k (omega arith)), number-below (take 16 (drop (16 * k) table)) (bytes-part (16 * k) 16 table bytes) 8 8)
+      go false e = omega (arith, ap (λ (a : Arc). a .risks) (List·getD-eq-default (arcsOf table) (arcAt [] 0) {n = k} (omega (arith, arcs-length table, ltb-false k (length table / 16) e))))
+
+  pub risks-below : (ks : List ℕ) → risksOf (arcsOf table) ks < 2 ^ riskWidth
+  unfolding risksOf
+  risks-below [] = omega arith
+  risks-below (k ∷ ks) = or-lt riskWidth (arcAt (arcsOf table) k .risks) (risksOf (arcsOf table) ks) (arc-risks-below k) (risks-below ks)
 
 -- the five tests of `faultOf`, all passed
 tests-passed : (t h e m s : Bool)
@@ -74,6 +85,18 @@ sound-arc a h =
       spare-zero = eqb-true _ _ (p .4);
     }
 
+-- and the other way round
+pub arc-sound : (a : Arc) → SoundArc a → faultNumber (faultOf a) ≡ 0
+unfolding faultOf
+arc-sound a s =
+    rw (
+      le-ltb lastNode (a .tail) (s .tail-node),
+      le-ltb lastNode (a .head) (s .head-node),
+      ne-eqb (a .tail) (a .head) (s .ends-differ),
+      le-ltb mostArcMetres (a .metres) (s .metres-range),
+      eq-eqb (a .spare) 0 (s .spare-zero),
+    )
+
 -- the first of two numbers that is not 0 is 0 only where both are
 both-zero : (m n : ℕ) → (if eqb m 0 then n else m) ≡ 0 → (m ≡ 0) × (n ≡ 0)
 both-zero zero n e = (refl, e)
@@ -95,6 +118,19 @@ number-sound arcs h = eq-eqb (arcsNumber arcs) 0 h
 
 pub sound-at : (arcs : List Arc) → allSound arcs ≡ true → (k : ℕ) → k < length arcs → SoundArc (arcAt arcs k)
 sound-at arcs h k l = number-at arcs (sound-number arcs h) k l
+
+-- where the number is not 0, some arc has a field out of its range
+pub number-unsound : (arcs : List Arc) → (arcsNumber arcs ≡ 0 → ⊥) → (k : ℕ) × (k < length arcs) × (SoundArc (arcAt arcs k) → ⊥)
+unfolding arcsNumber
+number-unsound [] h = absurd (h refl)
+number-unsound (a ∷ arcs) h = go (eqb (faultNumber (faultOf a)) 0) refl (number-unsound arcs)
+  where
+    Unsound : List Arc → Type 0
+    Unsound l = (k : ℕ) × (k < length l) × (SoundArc (arcAt l k) → ⊥)
+
+    go : (b : Bool) → eqb (faultNumber (faultOf a)) 0 ≡ b → ((arcsNumber arcs ≡ 0 → ⊥) → Unsound arcs) → Unsound (a ∷ arcs)
+    go true e ih = let u = ih (λ z. h (rw (e, arcsNumber) z)) in (suc (u .0), suc-le-suc (u .1), u .2)
+    go false e ih = (0, omega arith, λ s. eqb-false (faultNumber (faultOf a)) 0 e (arc-sound a s))
 
 fault-nine : (f : Fault) → (faultNumber f ≡ 0 → ⊥) → faultNumber f ≡ 9
 fault-nine Sound h = absurd (h refl)

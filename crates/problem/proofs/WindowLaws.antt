@@ -4,21 +4,21 @@ use mathlib.Core.Path.{_≡_, refl, sym, ap, ap₂, _∙_, subst}
 use mathlib.Core.Logic.{_⊎_, inl, inr, _↔_}
 use mathlib.Core.Bool.{Bool, true, false, _||_, true≢false}
 use mathlib.Core.List.{List, [], _∷_, List·Memᴰ, Memᴰ·cast, head-eq-of-cons-eq, tail-eq-of-cons-eq}
-use Prim.Native.Nat.{ℕ, zero, suc, _+_, _*_, _-_, _/_, _≤_, _<_, max}
+use Prim.Native.Nat.{ℕ, zero, suc, _+_, _*_, _-_, _/_, _≤_, _<_, min, max}
 use native.Mathlib.Nat.{le-of-suc-le-suc, not-suc-le-zero}
 use native.Mathlib.Omega.{arith}
-use lib.Dec.{eqb, ltb}
+use lib.Dec.{eqb, leb, ltb}
 use lib.ListN.{length, getD, take, length-take}
-use borrow.Author.Tests.{eq-eqb, ne-eqb, leb-true, le-leb, ltb-true, ltb-false, lt-ltb, le-ltb}
+use borrow.Author.Tests.{eq-eqb, ne-eqb, leb-true, leb-false, le-leb, ltb-true, ltb-false, lt-ltb, le-ltb}
 use Rattle.laws.specs.Choosing.{lexBy, keep}
-use Rattle.laws.proofs.ListLaws.{Place, Early, mem-place, take-place, getD-mem, getD-take-mem, keep-in, keep-out, keep-none, pairwise-head, pairwise-tail, pairwise-at}
+use Rattle.laws.proofs.ListLaws.{Place, Early, mem-place, take-place, getD-mem, getD-take-mem, take-more, keep-in, keep-out, keep-none, pairwise-head, pairwise-tail, pairwise-at}
 use Rattle.laws.proofs.OrderLaws.{ltb-total, lex-false, lex-lt, lex-eq}
 use Rattle.laws.proofs.SortLaws.{Strict, place-order, place-unique, keep-beginning}
 use Rattle.problem.specs.Routes.{Route, rankKey, precedes, within}
-use Rattle.problem.specs.Pairs.{Pair, sharedCount, total, judgeKey, judged, NoWorse, noRoute, best, settledByLength, settled, leastSettled}
+use Rattle.problem.specs.Pairs.{Pair, pair, sharedCount, total, judgeKey, judged, NoWorse, noRoute, best, settledByLength, settled, leastSettled, ranked}
 use Rattle.problem.proofs.RankingLaws.{key-total, precedes-weak, precedes-metres}
-use Rattle.problem.proofs.PairLaws.{pair, judge-total, Step, best-least, best-mem, best-main, best-mono, floor-le}
-use Rattle.problem.proofs.SettleLaws.{ByLength, settled-cases, settled-by, least-settled, least-settled-inside, least-settled-step, metres-mono, settled-mono, main-not-after}
+use Rattle.problem.proofs.PairLaws.{judge-total, Step, best-least, best-mem, best-main, best-mono, floor-le}
+use Rattle.problem.proofs.SettleLaws.{ByLength, settled-cases, settled-by, least-settled, least-settled-inside, least-settled-step, metres-mono, by-length-mono, settled-mono, main-not-after}
 
 -- how many pass a test
 abbrev pub count : (Route → Bool) → List Route → ℕ
@@ -151,27 +151,27 @@ module _ (routes : List Route) (strict : Strict precedes routes) where
   unfolding total
   main-half step = omega (arith, main-metres step)
 
-  take-more : {i j : ℕ} {r : Route} → i ≤ j → List·Memᴰ r (take i routes) → List·Memᴰ r (take j routes)
-  take-more {i} {j} l m =
-      let x = take-place noRoute i routes m in
-      Memᴰ·cast (x .is) (getD-take-mem noRoute j routes (x .at) (omega (arith, x .early)) (x .inside))
+  -- two pairs of routes that neither is judged before the other are one
+  pub judged-same : {m s m′ s′ : Route} → List·Memᴰ m routes → List·Memᴰ s routes → List·Memᴰ m′ routes → List·Memᴰ s′ routes
+      → judged (pair m s) (pair m′ s′) ≡ false → judged (pair m′ s′) (pair m s) ≡ false → pair m s ≡ pair m′ s′
+  unfolding judged judgeKey
+  judged-same {m} {s} {m′} {s′} a b c d u v =
+      let e : judgeKey (pair m s) ≡ judgeKey (pair m′ s′) = judge-total .tri _ _ u v in
+      let f = tail-eq-of-cons-eq e in
+      ap₂ pair (route-unique a c (head-eq-of-cons-eq f)) (route-unique b d (head-eq-of-cons-eq (tail-eq-of-cons-eq f)))
 
   -- with its main among the first i, the best pair of j is that of i
   pub best-same : {i j : ℕ} → Step routes j → i ≤ j → List·Memᴰ (best routes j .main) (take i routes) → best routes i ≡ best routes j
-  unfolding judged judgeKey
   best-same {i} {j} step l m =
       let x = take-place noRoute i routes m in
       let early : Step routes i = record { from-one = omega (arith, x .early); to-N = omega (arith, step .to-N) } in
       let n = best-mem routes early in
-      let e : judgeKey (best routes i) ≡ judgeKey (best routes j) = judge-total .tri _ _ (best-least routes j (take-more l (n .0)) (n .1)) (best-least routes i m (best-mem routes step .1)) in
-      let f = tail-eq-of-cons-eq e in
-      ap₂ pair
-      (route-unique (best-main routes early) (best-main routes step) (head-eq-of-cons-eq f))
-      (route-unique (n .1) (best-mem routes step .1) (head-eq-of-cons-eq (tail-eq-of-cons-eq f)))
+      judged-same (best-main routes early) (n .1) (best-main routes step) (best-mem routes step .1)
+      (best-least routes j (take-more noRoute routes l (n .0)) (n .1)) (best-least routes i m (best-mem routes step .1))
 
   -- ---- J from a step that is settled, or is not
 
-  J-le : {j : ℕ} → Step routes j → settled routes j ≡ true → leastSettled routes ≤ j
+  pub J-le : {j : ℕ} → Step routes j → settled routes j ≡ true → leastSettled routes ≤ j
   J-le {j} step e =
       let no : j < leastSettled routes → ⊥ = λ l. true≢false (sym e ∙ least-settled routes (omega (arith, step .from-one, step .to-N)) .none-before j (step .from-one) l) in
       omega arith
@@ -251,7 +251,7 @@ module _ (routes : List Route) (strict : Strict precedes routes) where
             let ahead : precedes (best routes J .main) (p .main) ≡ true = rw (x .is, main .is) (pairwise-at noRoute routes strict (x .at) (main .at) (omega (arith, x .early)) (main .inside)) in
             true≢false
             (sym (judged-ahead (best routes J) p (c .meets-floor ∙ sym (b .meets-floor)) (omega (arith, c .long-enough, main-metres step)) ahead)
-            ∙ best-least routes j (take-more J-early (n .0)) (n .1))
+            ∙ best-least routes j (take-more noRoute routes J-early (n .0)) (n .1))
 
     -- J has the same best pair
     pub counted-best : best routes (leastSettled routes) ≡ best routes j
@@ -299,3 +299,30 @@ module _ (routes : List Route) (strict : Strict precedes routes) where
     pub counted-half : (i : ℕ) → i < j → getD routes i noRoute ≡ best routes j .main → best routes j .main .metres ≡ half (best routes j) → leastSettled routes ≡ suc i
     counted-half i l e f =
         omega (arith, counted i l e, shorter-place (half p) i (omega (arith, step .to-N)) .1 (omega (arith, ap (λ (r : Route). r .metres) e)))
+
+  -- ---- from J on
+
+  -- from J on the best pair stays the same
+  pub best-stays : {j : ℕ} → Step routes j → leastSettled routes ≤ j → best routes (leastSettled routes) ≡ best routes j
+  best-stays {j} step l = go (settled-cases routes (leastSettled routes) (least-settled routes some .holds))
+    where
+      some : 0 < length routes
+      some = omega (arith, step .from-one, step .to-N)
+
+      go : (leastSettled routes ≡ length routes) ⊎ ByLength routes (leastSettled routes) → best routes (leastSettled routes) ≡ best routes j
+      go (inl e) = ap (best routes) (omega (arith, step .to-N))
+      go (inr b) = counted-best step (by-length-mono routes strict (least-settled-step routes some) l (step .to-N) b)
+
+  -- the pair of the answer is the best of all mains within the allowance, also where fewer were ranked
+  pub best-allowed : (allowance : ℕ) → 0 < length routes → 0 < allowance → best routes (ranked routes allowance) ≡ best routes (min allowance (length routes))
+  unfolding ranked
+  best-allowed allowance some pos = go (leb (leastSettled routes) allowance) refl
+    where
+      all : Step routes (min allowance (length routes))
+      all = record { from-one = omega arith; to-N = omega arith }
+
+      go : (b : Bool) → leb (leastSettled routes) allowance ≡ b → best routes (min (leastSettled routes) allowance) ≡ best routes (min allowance (length routes))
+      go true e =
+          let h = leb-true (leastSettled routes) allowance e in
+          ap (best routes) (omega arith) ∙ best-stays all (omega (arith, least-settled-inside routes some))
+      go false e = let h = leb-false (leastSettled routes) allowance e in ap (best routes) (omega (arith, least-settled-inside routes some))

@@ -7,8 +7,8 @@ use Rattle.problem.specs.Table.{numberAt, bytesOf, arcOf, firstArcs, arc
 use Rattle.problem.specs.Routes.{metresOf, risksOf, opens, sprout, grow, routeOf, routesFrom, rankKey, precedes, within, ranking, freeLengths, shortest}
 use Rattle.problem.specs.Pairs.{sharedRisks, sharedCount, total, judgeKey, judged, pairsOf, best, commonRisks, floor, settledByLength, settled, leastSettled, ranked, verdict}
 use Rattle.problem.specs.Reply.{after, placesOf, replyOf, refusal, planned, answerUnless, answer}
-use Rattle.problem.specs.Printed.{kilometres, text, digits, fields, lines, printed, requestOf, output}
+use Rattle.problem.specs.Printed.{kilometres, text, digits, fields, lines, printed, requestOf, faulty, output}
 
 unfoldable pub opened : ℕ
-unfolding onesIn leastFrom keep lexBy insertBy sortBy firstFrom firstBy bit with numberAt bytesOf arcOf firstArcs arcsOf faultOf arcsNumber metresOf risksOf opens sprout grow routeOf routesFrom rankKey precedes within ranking freeLengths shortest sharedRisks sharedCount total judgeKey judged pairsOf best commonRisks floor settledByLength settled leastSettled ranked verdict after placesOf replyOf refusal planned answerUnless answer kilometres text digits fields lines printed requestOf output
+unfolding onesIn leastFrom keep lexBy insertBy sortBy firstFrom firstBy bit with numberAt bytesOf arcOf firstArcs arcsOf faultOf arcsNumber metresOf risksOf opens sprout grow routeOf routesFrom rankKey precedes within ranking freeLengths shortest sharedRisks sharedCount total judgeKey judged pairsOf best commonRisks floor settledByLength settled leastSettled ranked verdict after placesOf replyOf refusal planned answerUnless answer kilometres text digits fields lines printed requestOf faulty output
 opened = 0

@@ -16,6 +16,9 @@ pub record Pair : Type 0 where
   pub main : Route
   pub standby : Route
 
+abbrev pub pair : Route → Route → Pair
+pair m s = record { main = m; standby = s }
+
 -- the risks in both sets
 unfoldable pub sharedRisks : Pair → ℕ
 sharedRisks p = bitAnd (p .main .risks) (p .standby .risks)
@@ -42,15 +45,23 @@ pub data NoWorse (shared metres shared′ metres′ : ℕ) : Type 0 where
 -- each main with each standby
 unfoldable pub pairsOf : List Route → List Route → List Pair
 pairsOf [] standbys = []
-pairsOf (m ∷ mains) standbys = map (λ s. record { main = m; standby = s }) standbys ++ pairsOf mains standbys
+pairsOf (m ∷ mains) standbys = map (λ s. pair m s) standbys ++ pairsOf mains standbys
 
 -- what stands for a route where there is none
 abbrev pub noRoute : Route
 noRoute = record { arcs = []; metres = 0; risks = 0 }
 
+-- the route of rank j
+abbrev pub ofRank : List Route → ℕ → Route
+ofRank routes j = getD routes (j - 1) noRoute
+
+-- the judgement as 01 says it, of the pair of ranks m and s: shared count, total length, rank of the main, rank of the standby (`judged` comes to the same: `judged-by-rank`)
+abbrev pub rankedKey : List Route → ℕ → ℕ → List ℕ
+rankedKey routes m s = let p : Pair = pair (ofRank routes m) (ofRank routes s) in sharedCount p ∷ total p ∷ m ∷ s ∷ []
+
 -- best(j): the first pair whose main has rank at most j and whose standby is any route
 unfoldable pub best : List Route → ℕ → Pair
-best routes j = firstBy judged (record { main = noRoute; standby = noRoute }) (pairsOf (take j routes) routes)
+best routes j = firstBy judged (pair noRoute noRoute) (pairsOf (take j routes) routes)
 
 -- the risks that lie on every route
 unfoldable pub commonRisks : List Route → ℕ
@@ -63,7 +74,7 @@ floor routes = onesIn riskWidth (commonRisks routes)
 -- best(j) shares exactly the floor, and twice the length of route j is at least its total
 unfoldable pub settledByLength : List Route → ℕ → Bool
 settledByLength routes j =
-    eqb (sharedCount (best routes j)) (floor routes) && leb (total (best routes j)) (2 * getD routes (j - 1) noRoute .metres)
+    eqb (sharedCount (best routes j)) (floor routes) && leb (total (best routes j)) (2 * ofRank routes j .metres)
 
 -- step j is settled
 unfoldable pub settled : List Route → ℕ → Bool

@@ -2,13 +2,13 @@
 use Prim.Native.Char.{code}
 use Prim.Native.Nat.{ℕ, zero, suc, _+_, _/_, _%_}
 use Prim.Native.String.{String}
-use mathlib.Core.Bool.{true, false, _||_, not}
+use mathlib.Core.Bool.{Bool, true, false, _||_, not}
 use mathlib.Core.List.{List, [], _∷_, _++_}
 use lib.Dec.{eqb, ltb}
-use lib.ListN.{length, getD, take, drop}
+use lib.ListN.{length, getD, drop}
 use Rattle.laws.specs.Choosing.{if_then_else_}
 use Rattle.problem.specs.Table.{replySize, numberAt}
-use Rattle.problem.specs.Reply.{Request, Answer, answer, refuse}
+use Rattle.problem.specs.Reply.{Request, request, Answer, answer, refuse, verdictIn, sharedIn, floorIn, rankedIn, mainMetresIn, standbyMetresIn, mainIn, standbyIn}
 
 -- metres plus 999, divided by 1,000, whole part: once per route
 unfoldable pub kilometres : ℕ → ℕ
@@ -32,9 +32,9 @@ fields (x ∷ xs) = text " " ++ digits 10 x ++ fields xs
 -- the three lines for a reply record
 unfoldable pub lines : List ℕ → List ℕ
 lines reply =
-    (if eqb (getD reply 0 0) 0 then text "settled" else text "stopped") ++ fields (getD reply 1 0 ∷ getD reply 2 0 ∷ numberAt reply 8 4 ∷ [])
-    ++ text "main" ++ fields (kilometres (numberAt reply 12 4) ∷ take (getD reply 3 0) (drop 32 reply))
-    ++ text "standby" ++ fields (kilometres (numberAt reply 16 4) ∷ take (getD reply 4 0) (drop 64 reply))
+    (if eqb (verdictIn reply) 0 then text "settled" else text "stopped") ++ fields (sharedIn reply ∷ floorIn reply ∷ rankedIn reply ∷ [])
+    ++ text "main" ++ fields (kilometres (mainMetresIn reply) ∷ mainIn reply)
+    ++ text "standby" ++ fields (kilometres (standbyMetresIn reply) ∷ standbyIn reply)
 
 -- what is printed for an answer
 unfoldable pub printed : Answer → List ℕ
@@ -42,13 +42,12 @@ printed a = if ltb (a .number) 2 then lines (a .reply) else (text "refused" ++ f
 
 -- the request record of 16 bytes
 unfoldable pub requestOf : List ℕ → Request
-requestOf b = record { source = getD b 0 0; terminal = getD b 1 0; reach = numberAt b 4 4; allowance = numberAt b 8 4 }
+requestOf b = request (getD b 0 0) (getD b 1 0) (numberAt b 4 4) (numberAt b 8 4)
+
+-- number 12: the input is under 16 bytes, or bytes 2 to 3 or 12 to 15 of the request are not zero
+unfoldable pub faulty : List ℕ → Bool
+faulty input = ltb (length input) 16 || not (eqb (numberAt input 2 2) 0) || not (eqb (numberAt input 12 4) 0)
 
 -- what the program prints for what it reads; number 12 is looked for first
 unfoldable pub output : List ℕ → List ℕ
-output input =
-    printed
-    (elim (ltb (length input) 16 || not (eqb (numberAt input 2 2) 0) || not (eqb (numberAt input 12 4) 0)) [
-      | true ↦ refuse 12
-      | false ↦ answer (drop 16 input) (requestOf input) replySize
-    ])
+output input = printed (elim (faulty input) [ true ↦ refuse 12 | false ↦ answer (drop 16 input) (requestOf input) replySize ])

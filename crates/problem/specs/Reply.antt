@@ -1,11 +1,11 @@
 -- 01, The reply record; Numbers returned, and the order of checks. Assumes nothing.
-use Prim.Native.Nat.{ℕ, zero, suc, _-_, _%_}
+use Prim.Native.Nat.{ℕ, zero, suc, _+_, _-_, _%_}
 use mathlib.Core.Bool.{_||_, not}
 use mathlib.Core.List.{List, [], _∷_, _++_}
 use lib.Dec.{eqb, ltb}
-use lib.ListN.{length, drop, replicate}
+use lib.ListN.{length, getD, take, drop, replicate}
 use Rattle.laws.specs.Choosing.{if_then_else_}
-use Rattle.problem.specs.Table.{lastNode, mostReach, mostAllowance, mostTableBytes, replySize, bytesOf, arcsOf, arcsNumber}
+use Rattle.problem.specs.Table.{lastNode, mostReach, mostAllowance, mostTableBytes, replySize, numberAt, bytesOf, arcsOf, arcsNumber}
 use Rattle.problem.specs.Routes.{Route, ranking}
 use Rattle.problem.specs.Pairs.{Pair, sharedRisks, sharedCount, best, floor, ranked, verdict}
 
@@ -14,6 +14,9 @@ pub record Request : Type 0 where
   pub terminal : ℕ
   pub reach : ℕ
   pub allowance : ℕ
+
+abbrev pub request : (source terminal reach allowance : ℕ) → Request
+request source terminal reach allowance = record { source = source; terminal = terminal; reach = reach; allowance = allowance }
 
 -- what a call gives: the number returned, and the bytes written, none with a refusal
 pub record Answer : Type 0 where
@@ -42,6 +45,38 @@ replyOf verdict floor ranked p =
     ++ bytesOf 8 (sharedRisks p)
     ++ placesOf (p .main)
     ++ placesOf (p .standby)
+
+-- what the 96 bytes say
+abbrev pub verdictIn : List ℕ → ℕ
+verdictIn reply = getD reply 0 0
+
+abbrev pub sharedIn : List ℕ → ℕ
+sharedIn reply = getD reply 1 0
+
+abbrev pub floorIn : List ℕ → ℕ
+floorIn reply = getD reply 2 0
+
+abbrev pub rankedIn : List ℕ → ℕ
+rankedIn reply = numberAt reply 8 4
+
+abbrev pub mainMetresIn : List ℕ → ℕ
+mainMetresIn reply = numberAt reply 12 4
+
+abbrev pub standbyMetresIn : List ℕ → ℕ
+standbyMetresIn reply = numberAt reply 16 4
+
+abbrev pub totalIn : List ℕ → ℕ
+totalIn reply = mainMetresIn reply + standbyMetresIn reply
+
+abbrev pub sharedRisksIn : List ℕ → ℕ
+sharedRisksIn reply = numberAt reply 24 8
+
+-- the arc numbers of main and standby
+abbrev pub mainIn : List ℕ → List ℕ
+mainIn reply = take (getD reply 3 0) (drop 32 reply)
+
+abbrev pub standbyIn : List ℕ → List ℕ
+standbyIn reply = take (getD reply 4 0) (drop 64 reply)
 
 -- the first of the checks 2 to 9 that applies, or 0; `size` is the reply buffer's
 unfoldable pub refusal : List ℕ → Request → ℕ → ℕ

@@ -1,7 +1,8 @@
 -- 01, The span table: the limits, numbers in bytes, the arc of 16 bytes, its faults, the table. Assumes nothing.
-use Prim.Native.Nat.{ℕ, zero, suc, _+_, _*_, _/_, _%_}
+use Prim.Native.Nat.{ℕ, zero, suc, _+_, _*_, _/_, _%_, _≤_, _<_}
 use mathlib.Core.Bool.{Bool, _||_, not}
 use mathlib.Core.List.{List, [], _∷_}
+use mathlib.Core.Path.{_≡_}
 use lib.Dec.{eqb, ltb}
 use lib.ListN.{length, getD, take, drop}
 use Rattle.laws.specs.Choosing.{if_then_else_}
@@ -37,6 +38,10 @@ mostTableBytes = 2048
 abbrev pub replySize : ℕ
 replySize = 96
 
+-- each of a list is a byte
+abbrev pub Bytes : List ℕ → Type 0
+Bytes l = (k : ℕ) → getD l k 0 < 256
+
 -- the number that n bytes from `at` on say, little-endian
 unfoldable pub numberAt : List ℕ → ℕ → ℕ → ℕ
 numberAt bytes at zero = 0
@@ -58,6 +63,14 @@ firstArcs (suc n) table = arcOf (take 16 table) ∷ firstArcs n (drop 16 table)
 
 unfoldable pub arcsOf : List ℕ → List Arc
 arcsOf table = firstArcs (length table / 16) table
+
+-- an arc whose every field is in its range
+pub record SoundArc (a : Arc) : Type 0 where
+  pub tail-node : a .tail ≤ lastNode
+  pub head-node : a .head ≤ lastNode
+  pub ends-differ : a .tail ≡ a .head → ⊥
+  pub metres-range : a .metres ≤ mostArcMetres
+  pub spare-zero : a .spare ≡ 0
 
 -- the first fault of an arc, in order
 unfoldable pub faultOf : Arc → Fault

@@ -10,11 +10,11 @@ use borrow.Author.Tests.{ltb-true, ltb-false, lt-ltb, le-ltb, eq-eqb, ne-eqb}
 use Rattle.laws.specs.Choosing.{if_then_else_}
 use Rattle.buffer.specs.Puts.{Puts}
 use Rattle.problem.specs.Table.{replySize, numberAt}
-use Rattle.problem.specs.Reply.{Request, Answer, after, answer}
-use Rattle.problem.specs.Printed.{text, fields, lines, printed, output, requestOf}
-use Rattle.problem.proofs.CallLaws.{low-number, reply-size}
-use Rattle.entry.specs.Entry.{answerTo}
-use Rattle.routes.specs.Faulty.{faulty}
+use Rattle.problem.specs.Reply.{Request, request, Answer, after, answer}
+use Rattle.problem.specs.Calls.{Called}
+use Rattle.problem.specs.Printed.{text, fields, lines, printed, requestOf, faulty, output}
+use Rattle.problem.proofs.CallLaws.{low-number}
+use Rattle.problem.proofs.SaidLaws.{reply-size}
 
 pub faulty-short : (input : List ℕ) → length input < 16 → faulty input ≡ true
 unfolding faulty
@@ -29,7 +29,7 @@ unfolding faulty numberAt
 faulty-high input h e = rw (le-ltb (length input) 16 h, eq-eqb (numberAt input 2 2) 0 (omega arith))
 
 pub output-fault : (input reply : List ℕ) → faulty input ≡ true → printed (record { number = 12; reply = reply }) ≡ output input
-unfolding output faulty printed
+unfolding output printed
 output-fault input reply e = rw (e)
 
 pub faulty-long : (input : List ℕ) → faulty input ≡ false → 16 ≤ length input
@@ -54,12 +54,13 @@ printed-after table q buffer l = go (ltb (answer table q replySize .number) 2) r
     go true e = rw (e) (ap lines (ap (λ (x : List ℕ). a .reply ++ x) (drop-of-length-le buffer {i = length (a .reply)} (omega (arith, l, reply-size (low-number table q replySize (omega (arith, ltb-true (a .number) 2 e)))))) ∙ append-nil (a .reply)))
     go false e = rw (e)
 
-pub output-answer : (input : List ℕ) → faulty input ≡ false → (n : ℕ) (reply buffer : List ℕ) → length buffer ≡ replySize
-    → n ≡ answer (drop 16 input) (requestOf input) replySize .number → reply ≡ after (answer (drop 16 input) (requestOf input) replySize) buffer
-    → printed (record { number = n; reply = reply }) ≡ output input
-unfolding output faulty
-output-answer input e n reply buffer l f g =
-    ap₂ (λ (x : ℕ) (y : List ℕ). printed (record { number = x; reply = y })) f g ∙ printed-after (drop 16 input) (requestOf input) buffer l ∙ whole
+pub output-answer : (input : List ℕ) → faulty input ≡ false → {n : ℕ} {before now : List ℕ} → length before ≡ replySize
+    → Called (drop 16 input) (requestOf input) before n now → printed (record { number = n; reply = now }) ≡ output input
+unfolding output
+output-answer input e {n} {before} {now} l c =
+    ap₂ (λ (x : ℕ) (y : List ℕ). printed (record { number = x; reply = y })) (c .number-is) (c .buffer-is)
+    ∙ ap (λ (size : ℕ). printed (record { number = answer (drop 16 input) (requestOf input) size .number; reply = after (answer (drop 16 input) (requestOf input) size) before })) l
+    ∙ printed-after (drop 16 input) (requestOf input) before l ∙ whole
   where
     whole : printed (answer (drop 16 input) (requestOf input) replySize) ≡ output input
     whole = rw (e)
@@ -69,9 +70,8 @@ pub put-output : (a : Answer) (input before after : List ℕ) (next : ℕ) → P
 put-output a input before after next p e =
     (subst (λ (bytes : List ℕ). Puts bytes before 0 after next) e p, omega (arith, p .place, ap length (p .holds), length-append (printed a) (drop next before)))
 
--- the answer to the request as the program reads it
-pub asked-by : (input table buffer : List ℕ) (s t r a : ℕ) → table ≡ drop 16 input → s ≡ getD input 0 0 → t ≡ getD input 1 0 → r ≡ numberAt input 4 4 → a ≡ numberAt input 8 4
-    → (n : ℕ) (reply : List ℕ) → (n ≡ answerTo table s t r a (length buffer) .number) × (reply ≡ after (answerTo table s t r a (length buffer)) buffer)
-    → (n ≡ answer (drop 16 input) (requestOf input) (length buffer) .number) × (reply ≡ after (answer (drop 16 input) (requestOf input) (length buffer)) buffer)
+-- what the entry does with the request that was read is what it does with the request that the input says
+pub asked-by : (input table before : List ℕ) (s t r a : ℕ) → table ≡ drop 16 input → s ≡ getD input 0 0 → t ≡ getD input 1 0 → r ≡ numberAt input 4 4 → a ≡ numberAt input 8 4
+    → {n : ℕ} {now : List ℕ} → Called table (request s t r a) before n now → Called (drop 16 input) (requestOf input) before n now
 unfolding requestOf
-asked-by input table buffer s t r a te se tt re ae n reply h = rw (sym te, sym se, sym tt, sym re, sym ae) h
+asked-by input table before s t r a te se tt re ae h = rw (sym te, sym se, sym tt, sym re, sym ae) h

@@ -2,11 +2,10 @@
 ghost use mathlib.Core.Path.{_≡_};
 ghost use Prim.Native.Nat.{_+_, _*_, _≤_};
 ghost use lib.ListN.{length, drop};
-ghost use Rattle.problem.specs.Reply.{answer, after};
-ghost use Rattle.problem.specs.Printed.{output, requestOf};
+ghost use Rattle.problem.specs.Calls.{Called};
+ghost use Rattle.problem.specs.Printed.{requestOf, faulty, output};
 ghost use Rattle.buffer.specs.Puts.{Puts};
 ghost use Rattle.print.specs.Print.{printRoom};
-ghost use Rattle.routes.specs.Faulty.{faulty};
 
 const INPUT_FAULT: u32 = 12;
 
@@ -32,8 +31,7 @@ fn is_faulty(input: &[u8]) -> bool
 // Plans what the input asks for.
 fn plan(input: &[u8], reply: &mut [u8]) -> u32
     requires { ⌜ 16 ≤ length (now input) ⌝ }
-    ensures number { λ r. ⌜ r ≡ answer (drop 16 (now (input .entry))) (requestOf (now (input .entry))) (length (now (reply .entry))) .number ⌝ }
-    ensures buffer { λ _. ⌜ now (reply .exit) ≡ after (answer (drop 16 (now (input .entry))) (requestOf (now (input .entry))) (length (now (reply .entry)))) (now (reply .entry)) ⌝ }
+    ensures { λ r. ⌜ Called (drop 16 (now (input .entry))) (requestOf (now (input .entry))) (now (reply .entry)) r (now (reply .exit)) ⌝ }
 {
     let source = print::wide(input[0]);
     let terminal = print::wide(input[1]);

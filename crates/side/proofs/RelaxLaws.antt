@@ -12,9 +12,8 @@ use lib.ListN.{length, set, length-set}
 use lib.Seq.{getD-set-same, getD-set-other}
 use borrow.Author.Tests.{eqb-true, eq-eqb, ne-eqb, ltb-true, ltb-false}
 use Rattle.problem.specs.declared.Arc.{Arc}
-use Rattle.problem.specs.Table.{mostArcMetres, mostReach}
+use Rattle.problem.specs.Table.{mostArcMetres, mostReach, SoundArc}
 use Rattle.problem.specs.Routes.{arcAt, metresOf, risksOf}
-use Rattle.problem.proofs.TableLaws.{SoundArc}
 use Rattle.side.specs.declared.Entry.{Entry}
 use Rattle.side.specs.declared.Side.{Side}
 use Rattle.side.specs.Side.{unreached, entryAt, reachedAt, metresAt, risksAt, Reaches, Entries}

@@ -14,9 +14,9 @@ use lib.ListN.{length, getD, set, replicate, length-set, length-replicate}
 use lib.Seq.{getD-set-same, getD-set-other}
 use borrow.Author.Tests.{eqb-true, eqb-false, ltb-true, ltb-false}
 use Rattle.laws.proofs.SetLaws.{digit}
+use Rattle.problem.specs.Table.{SoundArc}
 use Rattle.problem.specs.declared.Arc.{Arc}
 use Rattle.problem.specs.Routes.{arcAt, metresOf, risksOf, Way}
-use Rattle.problem.proofs.TableLaws.{SoundArc}
 use Rattle.side.specs.declared.Entry.{Entry}
 use Rattle.side.specs.declared.Side.{Side}
 use Rattle.side.specs.Side.{unreached, entryAt, reachedAt, metresAt, risksAt, Reaches, Entries, SideTable}

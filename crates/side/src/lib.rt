@@ -4,9 +4,8 @@ ghost use mathlib.Core.Path.{_≡_};
 ghost use mathlib.Core.Bool.{true};
 ghost use Prim.Native.Nat.{_+_, _*_, _≤_, _<_, _^_};
 ghost use lib.ListN.{length};
-ghost use Rattle.problem.specs.Table.{arcsOf, allSound};
+ghost use Rattle.problem.specs.Table.{arcsOf, allSound, SoundArc};
 ghost use Rattle.problem.specs.Routes.{arcAt};
-ghost use Rattle.problem.proofs.TableLaws.{SoundArc};
 ghost use Rattle.side.specs.Side.{SideTable};
 ghost use Rattle.side.specs.Relaxing.{Fits, isNearer, nearerOf, relaxedIn, gainsBy, turnAfter, startOf};
 

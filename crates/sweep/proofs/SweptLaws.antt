@@ -14,9 +14,8 @@ use borrow.Author.Tests.{leb-true, leb-false, le-leb, lt-leb, ltb-true, ltb-fals
 use Rattle.laws.specs.Choosing.{if_then_else_}
 use Rattle.problem.specs.declared.Arc.{Arc}
 use Rattle.problem.specs.Routes.{metresOf, Route, routeOf, routesFrom, within, ranking}
-use Rattle.problem.specs.Pairs.{sharedRisks, sharedCount, total}
+use Rattle.problem.specs.Pairs.{pair, sharedRisks, sharedCount, total}
 use Rattle.problem.proofs.GrowthLaws.{fold-same}
-use Rattle.problem.proofs.PairLaws.{pair}
 use Rattle.problem.proofs.WindowLaws.{count, shorter}
 use Rattle.keys.specs.Keys.{keyOf}
 use Rattle.sweep.specs.declared.Tally.{Tally}

@@ -1,19 +1,15 @@
 -- `entry::feshangul_plan` meets its contract: each end of the code is the same end of the definitions' answer. Assumes nothing.
 use mathlib.Core.Path.{sym, _∙_}
-use Prim.Native.Nat.{ℕ}
 use mathlib.Core.Bool.{true≢false}
 use lib.ListN.{length}
 use native.Mathlib.Omega.{arith}
 use borrow.Author.Needs.{needs}
 use borrow.Author.Tests.{not-true, not-false}
-use Rattle.problem.specs.Reply.{Request, answer}
+use Rattle.problem.specs.Reply.{request}
 use Rattle.problem.proofs.ReplyLaws.{Passed, refusal-passed}
 use Rattle.entry.proofs.EntryLaws.{refused, none-answered, untouched, given, not-too-long}
 use Rattle.entry.proofs.feshangul_plan.Statement.{statement}
 use Rattle.entry.proofs.feshangul_plan.Tie as tie
-
-abbrev request : (source terminal reach allowance : ℕ) → Request
-request source terminal reach allowance = record { source = source; terminal = terminal; reach = reach; allowance = allowance }
 
 refusal-requires : tie.Need-refusal-requires
 refusal-requires c κs = search needs
@@ -23,7 +19,7 @@ returns c =
     let f = c .before in
     let a = f .before .before .before .args in
     let q = request (a .source) (a .terminal) (a .reach) (a .allowance) in
-    untouched (answer (a .table .now) q (length (a .reply .now))) (f .refusal .result) (a .reply .now) (refused (a .table .now) q (length (a .reply .now)) (f .refusal .result) (f .refusal .ensures) (c .if1 .taken))
+    untouched (a .table .now) q (a .reply .now) (f .refusal .result) (refused (a .table .now) q (length (a .reply .now)) (f .refusal .result) (f .refusal .ensures) (c .if1 .taken))
 
 -- past the checks
 passed : (g : tie.Else1) → let a = g .before .before .before .before .args in
@@ -50,7 +46,7 @@ returns-2 c =
     let f = g .before in
     let a = f .before .before .before .args in
     let q = request (a .source) (a .terminal) (a .reach) (a .allowance) in
-    untouched (answer (a .table .now) q (length (a .reply .now))) 10 (a .reply .now)
+    untouched (a .table .now) q (a .reply .now) 10
     (none-answered (a .table .now) q (length (a .reply .now)) (sym (f .refusal .ensures) ∙ g .if1 .left) (m .plan-checked .ensures .none (not-true _ (c .if2 .taken))))
 
 is-too-long-requires : tie.Need-is-too-long-requires
@@ -93,8 +89,7 @@ returns-4 c =
     let f = g .before in
     let a = f .before .before .before .args in
     let q = request (a .source) (a .terminal) (a .reach) (a .allowance) in
-    let o = given (a .table .now) q (length (a .reply .now)) (passed g) (m .plan-checked .ensures .some (not-false _ (t .if2 .left))) (a .reply .now) in
-    (o .0, w .write .ensures ∙ o .1)
+    given (a .table .now) q (a .reply .now) (passed g) (m .plan-checked .ensures .some (not-false _ (t .if2 .left))) (w .write .ensures)
 
 pub feshangul-plan-spec : {M : Type 1} → statement M
 feshangul-plan-spec =

@@ -5,8 +5,8 @@ use Prim.Native.Nat.{_≤_, _-_}
 use lib.ListN.{length}
 use native.Mathlib.Omega.{arith}
 use borrow.Author.Needs.{needs}
-use Rattle.problem.specs.Table.{arcsOf}
-use Rattle.problem.proofs.TableLaws.{SoundArc, arcs-length, arcs-inside, sound-at}
+use Rattle.problem.specs.Table.{arcsOf, SoundArc}
+use Rattle.problem.proofs.TableLaws.{arcs-length, arcs-inside, sound-at}
 use Rattle.floor.specs.Clearing.{Rounded}
 use Rattle.floor.proofs.ClearLaws.{clearedBy, rounded-start, rounded-idle, rounded-unreached, rounded-cut, rounded-clears}
 use Rattle.floor.proofs.round.Statement.{statement}

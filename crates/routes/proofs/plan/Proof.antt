@@ -49,7 +49,7 @@ returns c =
     let u = a .before in
     let t = u .before .before in
     let s = t .before .before .before .before in
-    asked-by (s .args .input .now) _ (s .args .reply .now) _ _ _ _ (take-all (length (s .args .input .now) - 16) (drop 16 (s .args .input .now)) (rw length-drop (omega arith))) (t .wide .ensures) (u .wide2 .ensures) (a .number-at .ensures) (b .number-at2 .ensures) _ _ (f .feshangul-plan .ensures)
+    asked-by (s .args .input .now) _ (s .args .reply .now) _ _ _ _ (take-all (length (s .args .input .now) - 16) (drop 16 (s .args .input .now)) (rw length-drop (omega arith))) (t .wide .ensures) (u .wide2 .ensures) (a .number-at .ensures) (b .number-at2 .ensures) (f .feshangul-plan .ensures)
 
 pub plan-spec : {M : Type 1} → statement M
 plan-spec =

@@ -43,7 +43,7 @@ returns-2 c =
     let r = c .before .before in
     let p = r .before .before .before .before in
     let t = p .before .before in
-    put-output _ _ _ _ _ (r .render2 .ensures) (output-answer _ (sym (t .before .is-faulty .ensures) ∙ t .if1 .left) _ _ _ refl (p .plan .ensures .0) (p .plan .ensures .1))
+    put-output _ _ _ _ _ (r .render2 .ensures) (output-answer _ (sym (t .before .is-faulty .ensures) ∙ t .if1 .left) refl (p .plan .ensures))
 
 pub respond-spec : {M : Type 1} → statement M
 respond-spec =

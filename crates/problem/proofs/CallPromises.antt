@@ -1,0 +1,116 @@
+-- The promises, restated of calls of the entry: what the number returned and the bytes in the buffer must be, and what a second call with a larger allowance must give.
+-- `Called` says what one call does; crates/entry/proofs/Contract.antt shows that the contract of `feshangul_plan` says just that. Assumes nothing.
+use mathlib.Core.Path.{_≡_, sym, ap, _∙_}
+use mathlib.Core.Bool.{true, false}
+use mathlib.Core.Logic.{_⊎_, _↔_}
+use mathlib.Core.List.{List, List·Memᴰ}
+use Prim.Native.Nat.{ℕ, _*_, _≤_, _<_}
+use native.Mathlib.Omega.{arith}
+use lib.ListN.{length, take, drop}
+use lib.Seq.{take-at}
+use Rattle.problem.specs.Table.{mostAllowance, replySize, Bytes, arcsOf}
+use Rattle.problem.specs.Routes.{Route, metresOf}
+use Rattle.problem.specs.Pairs.{pair, sharedRisks, sharedCount, total, judged, NoWorse, ofRank, floor}
+use Rattle.problem.specs.Reply.{Request, answer, after, sharedIn, rankedIn, mainMetresIn, standbyMetresIn, totalIn, sharedRisksIn, mainIn, standbyIn}
+use Rattle.problem.specs.Calls.{routesOf, RouteOf, WayOf, pairMadeOf, pairSaid, allowing, Applies, Called}
+use Rattle.problem.proofs.Promises as promised
+
+module _ {table : List ℕ} {q : Request} {before now : List ℕ} {number : ℕ} (c : Called table q before number now) where
+  -- the first 96 bytes
+  abbrev reply : List ℕ
+  reply = take replySize now
+
+  low : number < 2 → answer table q (length before) .number < 2
+  low h = omega (arith, c .number-is)
+
+  zero-is : number ≡ 0 → answer table q (length before) .number ≡ 0
+  zero-is e = sym (c .number-is) ∙ e
+
+  -- ==== Demand 1
+
+  -- each number is returned exactly where its own test holds and that of no smaller number
+  pub call-in-order : (n : ℕ) → 2 ≤ n → (number ≡ n) ↔ (Applies table q (length before) n × ((i : ℕ) → i < n → Applies table q (length before) i → ⊥))
+  call-in-order = rw (c .number-is) (promised.checked-in-order table q (length before))
+
+  -- a call is answered exactly where no test holds
+  pub call-answered : (number < 2) ↔ ((i : ℕ) → Applies table q (length before) i → ⊥)
+  call-answered = rw (c .number-is) (promised.answered-exactly table q (length before))
+
+  -- a refusal leaves every byte
+  pub call-untouched : 2 ≤ number → now ≡ before
+  call-untouched h = c .buffer-is ∙ promised.refusal-keeps-buffer table q (length before) (omega (arith, c .number-is)) before
+
+  -- an answer leaves every byte behind the 96
+  pub call-keeps-rest : number < 2 → drop replySize now ≡ drop replySize before
+  call-keeps-rest h = ap (drop replySize) (c .buffer-is) ∙ promised.answer-keeps-rest table q (length before) (low h) before
+
+  -- the 96 bytes are those of the answer
+  replied : number < 2 → reply ≡ answer table q (length before) .reply
+  unfolding after
+  replied h =
+      ap (take replySize) (c .buffer-is)
+      ∙ take-at (answer table q (length before) .reply) (drop (length (answer table q (length before) .reply)) before) replySize (promised.answer-writes-96 table q (length before) (low h))
+
+  module _ (answered : number < 2) where
+    -- ==== Demand 2
+
+    -- the arc numbers in the bytes are routes, of the metres and shared risks that the bytes say
+    pub call-routes : RouteOf table q (mainIn reply) × RouteOf table q (standbyIn reply)
+    call-routes = rw (replied answered) (promised.reply-routes table q (length before) (low answered))
+
+    pub call-metres : (mainMetresIn reply ≡ metresOf (arcsOf table) (mainIn reply)) × (standbyMetresIn reply ≡ metresOf (arcsOf table) (standbyIn reply))
+    call-metres = rw (replied answered) (promised.reply-metres table q (length before) (low answered))
+
+    pub call-shared : sharedIn reply ≡ sharedCount (pairSaid (arcsOf table) reply)
+    call-shared = rw (replied answered) (promised.reply-shared table q (length before) (low answered))
+
+    pub call-risks : Bytes table → sharedRisksIn reply ≡ sharedRisks (pairSaid (arcsOf table) reply)
+    call-risks = rw (replied answered) (promised.reply-risks table q (length before) (low answered))
+
+    -- the main is among the first `allowance` routes, the standby is any route, and every other such pair comes after it
+    pub call-main : List·Memᴰ (pairSaid (arcsOf table) reply .main) (take (q .allowance) (routesOf table q))
+    call-main = rw (replied answered) (promised.main-allowed table q (length before) (low answered))
+
+    pub call-standby : List·Memᴰ (pairSaid (arcsOf table) reply .standby) (routesOf table q)
+    call-standby = rw (replied answered) (promised.standby-any table q (length before) (low answered))
+
+    pub call-none-before : (m s : Route) → List·Memᴰ m (take (q .allowance) (routesOf table q)) → List·Memᴰ s (routesOf table q) → judged (pair m s) (pairSaid (arcsOf table) reply) ≡ false
+    call-none-before = rw (replied answered) (promised.none-before table q (length before) (low answered))
+
+    pub call-others-after : (m s : Route) → List·Memᴰ m (take (q .allowance) (routesOf table q)) → List·Memᴰ s (routesOf table q)
+        → (pair m s ≡ pairSaid (arcsOf table) reply) ⊎ (judged (pairSaid (arcsOf table) reply) (pair m s) ≡ true)
+    call-others-after = rw (replied answered) (promised.others-after table q (length before) (low answered))
+
+    -- ==== Demand 3
+
+    -- settled exactly by 01's rule, read off the bytes
+    pub call-settled : (number ≡ 0)
+        ↔ ((rankedIn reply ≡ length (routesOf table q))
+        ⊎ ((sharedCount (pairSaid (arcsOf table) reply) ≡ floor (routesOf table q)) × (total (pairSaid (arcsOf table) reply) ≤ 2 * ofRank (routesOf table q) (rankedIn reply) .metres)))
+    call-settled = rw (replied answered, c .number-is) (promised.settled-exactly table q (length before) (low answered))
+
+    -- an allowance of at least N settles
+    pub call-settles : length (routesOf table q) ≤ q .allowance → number ≡ 0
+    call-settles all = c .number-is ∙ promised.all-routes-settle table q (length before) (low answered) all
+
+    -- settled: no two ways within reach do better than what the bytes say
+    pub call-no-better : number ≡ 0 → (u v : List ℕ) → WayOf table q u → WayOf table q v
+        → NoWorse (sharedIn reply) (totalIn reply) (sharedCount (pairMadeOf (arcsOf table) u v)) (total (pairMadeOf (arcsOf table) u v))
+    call-no-better e = rw (replied answered) (promised.settled-no-better table q (length before) (low answered) (zero-is e))
+
+-- two calls on the same buffer, the second with a larger permitted allowance
+module _ {table : List ℕ} {q : Request} {b : ℕ} {before now later : List ℕ} {first second : ℕ} (c : Called table q before first now) (d : Called table (allowing q b) before second later)
+    (answered : first < 2) (more : q .allowance ≤ b) (permitted : b ≤ mostAllowance) where
+  -- settled: the same number and the same bytes
+  pub call-stays : first ≡ 0 → (second ≡ 0) × (later ≡ now)
+  call-stays e =
+      let s = promised.settled-stays table q (length before) (low c answered) b more permitted (zero-is c e) in
+      (d .number-is ∙ ap (λ a. a .number) s ∙ zero-is c e, d .buffer-is ∙ ap (λ a. after a before) s ∙ sym (c .buffer-is))
+
+  -- settled or stopped: answered, no worse, and by the whole judgement no later
+  pub call-never-worse : (second < 2) × NoWorse (sharedIn (take replySize later)) (totalIn (take replySize later)) (sharedIn (take replySize now)) (totalIn (take replySize now))
+      × (judged (pairSaid (arcsOf table) (take replySize now)) (pairSaid (arcsOf table) (take replySize later)) ≡ false)
+  call-never-worse =
+      let w = promised.never-worse table q (length before) (low c answered) b more permitted in
+      let too : second < 2 = omega (arith, d .number-is, w .0) in
+      rw (replied c answered, replied d too) (too, w .1, w .2)

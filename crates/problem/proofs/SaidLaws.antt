@@ -1,0 +1,275 @@
+-- What the bytes of a reply say: the pair of the answer, its routes, its numbers; that pair among all that the allowance admits; and two calls that differ in their allowance. Assumes nothing.
+use mathlib.Core.Path.{_≡_, refl, sym, ap, ap₂, _∙_, subst}
+use mathlib.Core.Bool.{Bool, true, false}
+use mathlib.Core.Logic.{_⊎_, inl, inr, _↔_}
+use mathlib.Core.List.{List, List·Memᴰ}
+use Prim.Native.Nat.{ℕ, _+_, _*_, _≤_, _<_, _^_, min}
+use native.Mathlib.Omega.{arith}
+use lib.Bits.{and-lt}
+use lib.Dec.{ltb}
+use lib.ListN.{length, take}
+use borrow.Author.Tests.{ltb-true, ltb-false}
+use Rattle.laws.proofs.ListLaws.{take-more, take-mem, take-inside}
+use Rattle.laws.proofs.SortLaws.{Strict}
+use Rattle.problem.specs.declared.Arc.{Arc}
+use Rattle.problem.specs.Table.{mostArcs, riskWidth, mostAllowance, replySize, Bytes, arcsOf}
+use Rattle.problem.specs.Routes.{Route, metresOf, routeOf, precedes}
+use Rattle.problem.specs.Pairs.{Pair, pair, sharedRisks, sharedCount, total, judged, NoWorse, noRoute, ofRank, best, floor, settled, leastSettled, ranked, verdict}
+use Rattle.problem.specs.Reply.{Request, Answer, replyOf, answer, verdictIn, sharedIn, floorIn, rankedIn, mainMetresIn, standbyMetresIn, totalIn, sharedRisksIn, mainIn, standbyIn}
+use Rattle.problem.specs.Calls.{routesOf, RouteOf, WayOf, chosen, pairMadeOf, pairSaid, allowing}
+use Rattle.problem.proofs.TableLaws.{risks-below}
+use Rattle.problem.proofs.RankingLaws.{Listed, ranking-out, ranking-strict, route-short}
+use Rattle.problem.proofs.PairLaws.{best-mem, best-main, best-least, judged-no-worse, shared-mono}
+use Rattle.problem.proofs.SettleLaws.{ByLength, settled-cases, settled-by, least-settled, least-settled-inside, main-not-after, settled-no-better}
+use Rattle.problem.proofs.WayLaws.{way-bettered}
+use Rattle.problem.proofs.WindowLaws.{judged-same, J-le, best-allowed}
+use Rattle.problem.proofs.ReplyLaws.{Passed, sound-heads, route-range, reply-verdict, reply-shared, reply-floor, reply-ranked, reply-main-metres, reply-standby-metres, reply-shared-risks, reply-main, reply-standby, reply-length}
+use Rattle.problem.proofs.CallLaws.{WithPair, Verdict, verdict-cases, verdict-settled, verdict-stopped, verdict-small, some-route, pair-step}
+
+-- ---- shared count and total, compared
+
+no-worse-cast : {a b c d a′ b′ c′ d′ : ℕ} → a ≡ a′ → b ≡ b′ → c ≡ c′ → d ≡ d′ → NoWorse a′ b′ c′ d′ → NoWorse a b c d
+no-worse-cast p q r s (NoWorse.fewer l) = NoWorse.fewer (omega arith)
+no-worse-cast p q r s (NoWorse.as-many e l) = NoWorse.as-many (p ∙ e ∙ sym r) (omega arith)
+
+-- what is no worse than something is no worse than what shares as many at least and is as long at least
+pub no-worse-still : {a b c d c′ d′ : ℕ} → NoWorse a b c d → c ≤ c′ → d ≤ d′ → NoWorse a b c′ d′
+no-worse-still (NoWorse.fewer l) p q = NoWorse.fewer (omega arith)
+no-worse-still {a} {b} {c} {d} {c′} {d′} (NoWorse.as-many e l) p q = go (ltb c c′) refl
+  where
+    go : (x : Bool) → ltb c c′ ≡ x → NoWorse a b c′ d′
+    go true f = NoWorse.fewer (omega (arith, ltb-true c c′ f))
+    go false f = NoWorse.as-many (omega (arith, ltb-false c c′ f)) (omega arith)
+
+module _ {table : List ℕ} {q : Request} {size : ℕ} (w : WithPair table q size) where
+  abbrev arcs : List Arc
+  arcs = arcsOf table
+
+  abbrev routes : List Route
+  routes = routesOf table q
+
+  abbrev reply : List ℕ
+  reply = answer table q size .reply
+
+  strict : Strict precedes routes
+  strict = ranking-strict arcs (q .source) (q .terminal) (q .reach)
+
+  -- ---- the routes of the pair
+
+  main-listed : List·Memᴰ (chosen table q .main) routes
+  main-listed = best-main routes (pair-step w)
+
+  pub standby-listed : List·Memᴰ (chosen table q .standby) routes
+  standby-listed = best-mem routes (pair-step w) .1
+
+  -- a listed route is a route of the definition, and is made of its own arc numbers
+  listed-route : {r : Route} → List·Memᴰ r routes → RouteOf table q (r .arcs) × (routeOf arcs (r .arcs) ≡ r)
+  unfolding routeOf
+  listed-route {r} m = go (ranking-out arcs (q .source) (q .terminal) (q .reach) m)
+    where
+      go : Listed arcs (q .source) (q .terminal) (q .reach) r → RouteOf table q (r .arcs) × (routeOf arcs (r .arcs) ≡ r)
+      go o =
+          let e : o .list ≡ r .arcs = ap (λ (s : Route). s .arcs) (sym (o .is)) in
+          (subst (RouteOf table q) e (o .route), ap (routeOf arcs) (sym e) ∙ sym (o .is))
+
+  listed-short : {r : Route} → List·Memᴰ r routes → length (r .arcs) ≤ mostArcs
+  listed-short m =
+      route-short arcs (q .source) (q .terminal) (q .reach) (sound-heads arcs (w .passed .sound)) (omega (arith, w .passed .source-node)) (listed-route m .0)
+
+  -- ---- the fields
+
+  abbrev written : List ℕ
+  written = replyOf (verdict routes (q .allowance)) (floor routes) (ranked routes (q .allowance)) (chosen table q)
+
+  reply-is : reply ≡ written
+  reply-is = ap (λ (a : Answer). a .reply) (w .is)
+
+  pub reply-size : length reply ≡ replySize
+  reply-size = ap length reply-is ∙ reply-length _ _ _ (chosen table q) (listed-short main-listed) (listed-short standby-listed)
+
+  pub verdict-in : verdictIn reply ≡ answer table q size .number
+  verdict-in = ap verdictIn reply-is ∙ reply-verdict _ _ _ (chosen table q) ∙ ap (λ (a : Answer). a .number) (sym (w .is))
+
+  pub shared-in : sharedIn reply ≡ sharedCount (chosen table q)
+  shared-in = ap sharedIn reply-is ∙ reply-shared _ _ _ (chosen table q)
+
+  pub floor-in : floorIn reply ≡ floor routes
+  floor-in = ap floorIn reply-is ∙ reply-floor _ _ _ (chosen table q)
+
+  pub ranked-in : rankedIn reply ≡ ranked routes (q .allowance)
+  unfolding ranked
+  ranked-in = ap rankedIn reply-is ∙ reply-ranked _ _ _ (chosen table q) (omega (arith, w .passed .allowance-range))
+
+  main-metres-in : mainMetresIn reply ≡ chosen table q .main .metres
+  main-metres-in = ap mainMetresIn reply-is ∙ reply-main-metres _ _ _ (chosen table q) (omega (arith, route-range (w .passed) main-listed))
+
+  standby-metres-in : standbyMetresIn reply ≡ chosen table q .standby .metres
+  standby-metres-in = ap standbyMetresIn reply-is ∙ reply-standby-metres _ _ _ (chosen table q) (omega (arith, route-range (w .passed) standby-listed))
+
+  pub total-in : totalIn reply ≡ total (chosen table q)
+  unfolding total
+  total-in = ap₂ (λ (m s : ℕ). m + s) main-metres-in standby-metres-in
+
+  main-in : mainIn reply ≡ chosen table q .main .arcs
+  main-in = ap mainIn reply-is ∙ reply-main _ _ _ (chosen table q)
+
+  standby-in : standbyIn reply ≡ chosen table q .standby .arcs
+  standby-in = ap standbyIn reply-is ∙ reply-standby _ _ _ (chosen table q) (listed-short main-listed)
+
+  -- the pair that the bytes say is the pair of the answer
+  pub said-is : pairSaid arcs reply ≡ chosen table q
+  said-is = ap₂ pair (ap (routeOf arcs) main-in ∙ listed-route main-listed .1) (ap (routeOf arcs) standby-in ∙ listed-route standby-listed .1)
+
+  pub said-routes : RouteOf table q (mainIn reply) × RouteOf table q (standbyIn reply)
+  said-routes = (subst (RouteOf table q) (sym main-in) (listed-route main-listed .0), subst (RouteOf table q) (sym standby-in) (listed-route standby-listed .0))
+
+  pub said-metres : (mainMetresIn reply ≡ metresOf arcs (mainIn reply)) × (standbyMetresIn reply ≡ metresOf arcs (standbyIn reply))
+  unfolding routeOf
+  said-metres = (main-metres-in ∙ ap (λ (p : Pair). p .main .metres) (sym said-is), standby-metres-in ∙ ap (λ (p : Pair). p .standby .metres) (sym said-is))
+
+  pub said-shared : sharedIn reply ≡ sharedCount (pairSaid arcs reply)
+  said-shared = shared-in ∙ ap sharedCount (sym said-is)
+
+  -- in a table of bytes no risk is past 63, so the field has room for all
+  pub said-risks : Bytes table → sharedRisksIn reply ≡ sharedRisks (pairSaid arcs reply)
+  unfolding sharedRisks routeOf
+  said-risks bytes =
+      let room : sharedRisks (pairSaid arcs reply) < 2 ^ riskWidth = and-lt riskWidth _ _ (risks-below table bytes (mainIn reply)) (risks-below table bytes (standbyIn reply)) in
+      ap sharedRisksIn reply-is ∙ reply-shared-risks _ _ _ (chosen table q) (subst (λ (p : Pair). sharedRisks p < 2 ^ riskWidth) said-is room) ∙ ap sharedRisks (sym said-is)
+
+  -- ---- among all pairs that the allowance admits
+
+  -- the pair of the answer is best(allowance), or best(N) where the allowance is larger
+  all-allowed : chosen table q ≡ best routes (min (q .allowance) (length routes))
+  all-allowed = best-allowed routes strict (q .allowance) (w .some) (w .passed .some-allowance)
+
+  pub main-allowed : List·Memᴰ (chosen table q .main) (take (q .allowance) routes)
+  unfolding ranked
+  main-allowed = let fewer : ranked routes (q .allowance) ≤ q .allowance = omega arith in take-more noRoute routes fewer (best-mem routes (pair-step w) .0)
+
+  pub none-before : {m s : Route} → List·Memᴰ m (take (q .allowance) routes) → List·Memᴰ s routes → judged (pair m s) (chosen table q) ≡ false
+  none-before {m} {s} x y =
+      ap (judged (pair m s)) all-allowed ∙ best-least routes (min (q .allowance) (length routes)) (take-inside noRoute (q .allowance) routes x) y
+
+  -- every other one comes after it
+  pub others-after : {m s : Route} → List·Memᴰ m (take (q .allowance) routes) → List·Memᴰ s routes → (pair m s ≡ chosen table q) ⊎ (judged (chosen table q) (pair m s) ≡ true)
+  others-after {m} {s} x y = go (judged (chosen table q) (pair m s)) refl
+    where
+      go : (b : Bool) → judged (chosen table q) (pair m s) ≡ b → (pair m s ≡ chosen table q) ⊎ (judged (chosen table q) (pair m s) ≡ true)
+      go true e = inr e
+      go false e = inl (judged-same routes strict (take-mem noRoute (q .allowance) x) y main-listed standby-listed (none-before x y) e)
+
+  pub main-first : precedes (chosen table q .standby) (chosen table q .main) ≡ false
+  main-first = main-not-after routes strict (pair-step w)
+
+  -- ---- the verdict
+
+  number-is : answer table q size .number ≡ verdict routes (q .allowance)
+  number-is = ap (λ (a : Answer). a .number) (w .is)
+
+  pub settled-number : (answer table q size .number ≡ 0) ↔ (leastSettled routes ≤ q .allowance)
+  settled-number = (λ e. to e (verdict-cases routes (q .allowance)), λ h. number-is ∙ verdict-settled routes (q .allowance) h)
+    where
+      to : answer table q size .number ≡ 0 → Verdict routes (q .allowance) → leastSettled routes ≤ q .allowance
+      to e (Verdict.settled-at l f) = l
+      to e (Verdict.stopped-at l f) = absurd (omega (arith, number-is))
+
+  pub stopped-number : (answer table q size .number ≡ 1) ↔ (q .allowance < leastSettled routes)
+  stopped-number = (λ e. to e (verdict-cases routes (q .allowance)), λ h. number-is ∙ verdict-stopped routes (q .allowance) h)
+    where
+      to : answer table q size .number ≡ 1 → Verdict routes (q .allowance) → q .allowance < leastSettled routes
+      to e (Verdict.settled-at l f) = absurd (omega (arith, number-is))
+      to e (Verdict.stopped-at l f) = l
+
+  pub enough : length routes ≤ q .allowance → answer table q size .number ≡ 0
+  enough h = settled-number .1 (omega (arith, least-settled-inside routes (w .some)))
+
+  -- the step replied is J
+  step-settled : answer table q size .number ≡ 0 → ranked routes (q .allowance) ≡ leastSettled routes
+  unfolding ranked
+  step-settled e = let h = settled-number .0 e in omega arith
+
+  settled-here : answer table q size .number ≡ 0 → settled routes (ranked routes (q .allowance)) ≡ true
+  settled-here e = ap (settled routes) (step-settled e) ∙ least-settled routes (w .some) .holds
+
+  -- settled exactly where the step replied is N, or 01's two tests hold at it
+  pub settled-tests : (answer table q size .number ≡ 0)
+      ↔ ((ranked routes (q .allowance) ≡ length routes) ⊎ ((sharedCount (chosen table q) ≡ floor routes) × (total (chosen table q) ≤ 2 * ofRank routes (ranked routes (q .allowance)) .metres)))
+  unfolding ranked
+  settled-tests = (λ e. to (settled-cases routes (ranked routes (q .allowance)) (settled-here e)), from)
+    where
+      Tests : Type 0
+      Tests = (sharedCount (chosen table q) ≡ floor routes) × (total (chosen table q) ≤ 2 * ofRank routes (ranked routes (q .allowance)) .metres)
+
+      to : (ranked routes (q .allowance) ≡ length routes) ⊎ ByLength routes (ranked routes (q .allowance)) → (ranked routes (q .allowance) ≡ length routes) ⊎ Tests
+      to (inl e) = inl e
+      to (inr b) = inr (b .meets-floor, b .long-enough)
+
+      from : (ranked routes (q .allowance) ≡ length routes) ⊎ Tests → answer table q size .number ≡ 0
+      from (inl e) = enough (omega arith)
+      from (inr t) =
+          settled-number .1
+          (omega (arith, J-le routes strict (pair-step w) (settled-by routes (ranked routes (q .allowance)) (record { meets-floor = t .0; long-enough = t .1 }))))
+
+  -- ---- two ways within reach
+
+  pub no-better-ways : answer table q size .number ≡ 0 → {u v : List ℕ} → WayOf table q u → WayOf table q v
+      → NoWorse (sharedIn reply) (totalIn reply) (sharedCount (pairMadeOf arcs u v)) (total (pairMadeOf arcs u v))
+  unfolding total routeOf
+  no-better-ways e {u} {v} x y =
+      let low = sound-heads arcs (w .passed .sound) in
+      let node : q .source < 32 = omega (arith, w .passed .source-node) in
+      let f = way-bettered arcs (q .source) (q .terminal) (q .reach) low node (x .way) (x .within-reach) in
+      let g = way-bettered arcs (q .source) (q .terminal) (q .reach) low node (y .way) (y .within-reach) in
+      no-worse-cast shared-in total-in refl refl
+      (no-worse-still (settled-no-better routes strict (pair-step w) (settled-here e) (f .ranked) (g .ranked))
+      (shared-mono (pair (f .route) (g .route)) (pairMadeOf arcs u v) (f .among) (g .among))
+      (omega (arith, f .shorter, g .shorter)))
+
+-- ---- two calls that differ in their allowance
+
+passed-allowing : {table : List ℕ} {q : Request} {size : ℕ} (b : ℕ) → Passed table q size → 0 < b → b ≤ mostAllowance → Passed table (allowing q b) size
+passed-allowing b p pos top =
+    record {
+      few-bytes = p .few-bytes;
+      whole-arcs = p .whole-arcs;
+      room = p .room;
+      source-node = p .source-node;
+      terminal-node = p .terminal-node;
+      ends-differ = p .ends-differ;
+      reach-range = p .reach-range;
+      some-allowance = pos;
+      allowance-range = top;
+      sound = p .sound;
+    }
+
+-- the second is answered too
+pub pair-allowing : {table : List ℕ} {q : Request} {size : ℕ} (b : ℕ) → WithPair table q size → q .allowance ≤ b → b ≤ mostAllowance → WithPair table (allowing q b) size
+pair-allowing {table} {q} {size} b w l top =
+    some-route table (allowing q b) size (passed-allowing b (w .passed) (omega (arith, w .passed .some-allowance)) top) (w .some)
+
+module _ {table : List ℕ} {q : Request} {size : ℕ} (w : WithPair table q size) (b : ℕ) (l : q .allowance ≤ b) (top : b ≤ mostAllowance) where
+  abbrev larger : Answer
+  larger = answer table (allowing q b) size
+
+  pub larger-answered : larger .number < 2
+  larger-answered = omega (arith, ap (λ (a : Answer). a .number) (pair-allowing b w l top .is), verdict-small (routesOf table q) b)
+
+  pub same-answer : answer table q size .number ≡ 0 → larger ≡ answer table q size
+  unfolding ranked
+  same-answer e =
+      let h = settled-number w .0 e in
+      pair-allowing b w l top .is
+      ∙ ap₂ by-step (verdict-settled (routesOf table q) b (omega arith) ∙ sym (verdict-settled (routesOf table q) (q .allowance) h)) (omega arith)
+      ∙ sym (w .is)
+    where
+      by-step : ℕ → ℕ → Answer
+      by-step n r = record { number = n; reply = replyOf n (floor (routesOf table q)) r (best (routesOf table q) r) }
+
+  pub no-later : judged (chosen table q) (chosen table (allowing q b)) ≡ false
+  no-later = none-before (pair-allowing b w l top) (take-more noRoute (routesOf table q) l (main-allowed w)) (standby-listed w)
+
+  pub no-worse-pair : NoWorse (sharedIn (larger .reply)) (totalIn (larger .reply)) (sharedIn (answer table q size .reply)) (totalIn (answer table q size .reply))
+  no-worse-pair =
+      let v = pair-allowing b w l top in
+      no-worse-cast (shared-in v) (total-in v) (shared-in w) (total-in w) (judged-no-worse (chosen table (allowing q b)) (chosen table q) no-later)

@@ -1,0 +1,59 @@
+-- Calls, as the promises speak of them: the routes and the ways of a call, the test of each number, the pair that a reply says, another allowance, and what a call of the entry does. Assumes nothing.
+use Prim.Native.Nat.{ℕ, _%_, _≤_, _<_}
+use mathlib.Core.List.{List}
+use mathlib.Core.Path.{_≡_}
+use lib.ListN.{length}
+use Rattle.problem.specs.declared.Arc.{Arc}
+use Rattle.problem.specs.Table.{lastNode, mostReach, mostAllowance, mostTableBytes, replySize, arcsOf, SoundArc}
+use Rattle.problem.specs.Routes.{Route, IsRoute, Way, arcAt, metresOf, routeOf, ranking}
+use Rattle.problem.specs.Pairs.{Pair, pair, best, ranked}
+use Rattle.problem.specs.Reply.{Request, request, answer, after, mainIn, standbyIn}
+
+-- the routes of a call, in their ranking; N is how many there are
+abbrev pub routesOf : List ℕ → Request → List Route
+routesOf table q = ranking (arcsOf table) (q .source) (q .terminal) (q .reach)
+
+-- a list of arc numbers that is a route of the call
+abbrev pub RouteOf : List ℕ → Request → List ℕ → Type 0
+RouteOf table q ks = IsRoute (arcsOf table) (q .source) (q .terminal) (q .reach) ks
+
+-- a way of the call: from source to terminal within reach; loops, and arcs taken twice, are allowed
+pub record WayOf (table : List ℕ) (q : Request) (ks : List ℕ) : Type 0 where
+  pub way : Way (arcsOf table) (q .source) (q .terminal) ks
+  pub within-reach : metresOf (arcsOf table) ks ≤ q .reach
+
+-- the pair of the answer: best(ranked)
+abbrev pub chosen : List ℕ → Request → Pair
+chosen table q = best (routesOf table q) (ranked (routesOf table q) (q .allowance))
+
+-- the pair made of two lists of arc numbers, and the one that the bytes of a reply say
+abbrev pub pairMadeOf : List Arc → (main standby : List ℕ) → Pair
+pairMadeOf arcs main standby = pair (routeOf arcs main) (routeOf arcs standby)
+
+abbrev pub pairSaid : List Arc → List ℕ → Pair
+pairSaid arcs reply = pairMadeOf arcs (mainIn reply) (standbyIn reply)
+
+-- the same request with another allowance
+abbrev pub allowing : Request → ℕ → Request
+allowing q allowance = request (q .source) (q .terminal) (q .reach) allowance
+
+-- 01's table of numbers: the test of each, whatever the others say. Two tests of one number are one or the other
+pub data Applies (table : List ℕ) (q : Request) (size : ℕ) : ℕ → Type 0 where
+  table-too-long : mostTableBytes < length table → Applies table q size 2
+  table-torn : (length table % 16 ≡ 0 → ⊥) → Applies table q size 3
+  buffer-too-small : size < replySize → Applies table q size 4
+  source-too-high : lastNode < q .source → Applies table q size 5
+  terminal-too-high : lastNode < q .terminal → Applies table q size 5
+  ends-equal : q .source ≡ q .terminal → Applies table q size 6
+  reach-too-far : mostReach < q .reach → Applies table q size 7
+  allowance-none : q .allowance ≡ 0 → Applies table q size 8
+  allowance-too-large : mostAllowance < q .allowance → Applies table q size 8
+  arc-out-of-range : (k : ℕ) → k < length (arcsOf table) → (SoundArc (arcAt (arcsOf table) k) → ⊥) → Applies table q size 9
+  no-route : ((ks : List ℕ) → RouteOf table q ks → ⊥) → Applies table q size 10
+  main-too-long : mostReach < chosen table q .main .metres → Applies table q size 11
+  standby-too-long : mostReach < chosen table q .standby .metres → Applies table q size 11
+
+-- what a call of the planning entry does: it finds `before` in the reply buffer, returns `number` and leaves `now`
+pub record Called (table : List ℕ) (q : Request) (before : List ℕ) (number : ℕ) (now : List ℕ) : Type 0 where
+  pub number-is : number ≡ answer table q (length before) .number
+  pub buffer-is : now ≡ after (answer table q (length before)) before
