@@ -62,15 +62,15 @@ fell c =
     nearer-turn _ _ _ (held arc) (made c) (l .loop .k) (arcs-inside (l .before .before .before .args .table .now) (l .loop .k) (omega arith)) _ (arc .sound-arc .ensures .0) (arc .sound-arc .ensures .1)
     (l .loop .inv .2) gain (relaxed-nearer _ _ _ _ _ gain (c .before .relax-in .ensures) refl)
 
-loop-less : tie.Need-loop-less Inv-loop μ-loop
-loop-less c = turns-less _ _ _ _ _ (fell c .1) (omega arith)
-
 gained : tie.Need-loop-again Inv-loop μ-loop
 gained c =
     let turn = c .before .before .before .before .before .before .before .before in
     let l = turn .before .before .before in
     let inside : turn .turn-after .result < length (l .before .before .before .args .table .now) / 16 = rw (turn .turn-after .ensures) (turn-inside _ _ (omega arith)) in
     (omega arith, omega (arith, inside), fell c .0, idle-none _ _ _ _ (arcs-length (l .before .before .before .args .table .now)) _ (omega (arith, inside)))
+
+loop-less : tie.Need-loop-less Inv-loop μ-loop
+loop-less c = turns-less _ _ _ _ _ (fell c .1) (omega arith)
 
 idle : tie.Need-loop-again-2 Inv-loop μ-loop
 idle c =
