@@ -1,17 +1,24 @@
--- 01, Meshes worked by hand: the starred cases and rows of our own, proved as a single table against the definitions. Assumes nothing.
-use Prim.Native.Nat.{ℕ, _-_}
+-- 01, Meshes worked by hand: the starred cases, proved as a single table against the definitions; and rows of our own, each there because a wrong definition
+-- would otherwise pass (docs/TESTING.md has the wrong definitions that were tried). Assumes nothing.
+use Prim.Native.Nat.{ℕ, zero, suc, _-_, _^_}
 use mathlib.Core.List.{List, [], _∷_, _++_, map}
 use mathlib.Core.Path.{_≡_, refl}
-use lib.ListN.{length, replicate}
+use lib.ListN.{length, take, replicate}
+use Rattle.problem.specs.declared.Fault.the-variants.{Sound, Node, EqualEnds, Length, Spare}
 use Rattle.problem.specs.Opened.{opened}
-use Rattle.problem.specs.Table.{bytesOf, arcsOf}
-use Rattle.problem.specs.Routes.{freeLengths}
-use Rattle.problem.specs.Reply.{Request, Answer, answer, refuse}
-use Rattle.problem.specs.Printed.{kilometres, text, output}
+use Rattle.problem.specs.Table.{bytesOf, arcOf, arcsOf, faultOf}
+use Rattle.problem.specs.Routes.{freeLengths, shortest}
+use Rattle.problem.specs.Reply.{Request, request, Answer, answer, refuse}
+use Rattle.problem.specs.Printed.{kilometres, text, digits, output}
 
 -- an arc as 01 prints it: tail, head, metres, and the field of its risks
 abbrev pub arc : ℕ → ℕ → ℕ → ℕ → List ℕ
 arc tail head metres risks = tail ∷ head ∷ 0 ∷ 0 ∷ [] ++ bytesOf 4 metres ++ bytesOf 8 risks
+
+-- n arcs in a line from node v on, each of the same metres, arc k with risk k
+abbrev pub line : ℕ → ℕ → ℕ → List ℕ
+line metres v zero = []
+line metres v (suc n) = arc v (suc v) metres (2 ^ v) ++ line metres (suc v) n
 
 abbrev pub meshA : List ℕ
 meshA = arc 0 1 1000 1 ++ arc 1 3 4000 2 ++ arc 0 2 4000 4 ++ arc 2 3 1000 8 ++ arc 1 2 1000 16
@@ -45,6 +52,16 @@ meshTie = arc 0 1 1000 1 ++ arc 0 1 1000 1 ++ arc 0 1 1000 2 ++ arc 0 1 1000 2
 abbrev pub meshZero : List ℕ
 meshZero = arc 0 1 0 0 ++ arc 1 0 0 0 ++ arc 1 2 0 2 ++ arc 0 2 0 1
 
+-- our own: two arcs written out byte by byte, no two bytes of a number alike; they share risks 7, 8 and 63
+abbrev pub meshRaw : List ℕ
+meshRaw =
+    0 ∷ 1 ∷ 0 ∷ 0 ∷ 56 ∷ 52 ∷ 18 ∷ 0 ∷ 129 ∷ 1 ∷ 2 ∷ 4 ∷ 8 ∷ 16 ∷ 32 ∷ 192 ∷ []
+    ++ 0 ∷ 1 ∷ 0 ∷ 0 ∷ 57 ∷ 52 ∷ 18 ∷ 0 ∷ 128 ∷ 3 ∷ 4 ∷ 8 ∷ 16 ∷ 32 ∷ 64 ∷ 128 ∷ []
+
+-- our own: the longest route that there can be, 31 arcs over all 32 nodes, and nothing else
+abbrev pub meshLong : List ℕ
+meshLong = line 2000000 0 31
+
 -- a route's arc numbers, then 255 to 32 bytes
 abbrev pub places : List ℕ → List ℕ
 places l = l ++ replicate (32 - length l) 255
@@ -58,6 +75,11 @@ written verdict shared floor ranked mainMetres standbyMetres risks main standby 
           ++ bytesOf 4 ranked ++ bytesOf 4 mainMetres ++ bytesOf 4 standbyMetres ++ 0 ∷ 0 ∷ 0 ∷ 0 ∷ [] ++ bytesOf 8 risks ++ places main ++ places standby;
     }
 
+-- n numbers from k on
+abbrev pub numbers : ℕ → ℕ → List ℕ
+numbers k zero = []
+numbers k (suc n) = k ∷ numbers (suc k) n
+
 -- a row of the table: a call, and the answer that 01 gives
 pub record Row : Type 0 where
   pub table : List ℕ
@@ -65,8 +87,7 @@ pub record Row : Type 0 where
   pub expected : Answer
 
 abbrev pub row : List ℕ → (terminal reach allowance : ℕ) → Answer → Row
-row table terminal reach allowance a =
-    record { table = table; request = record { source = 0; terminal = terminal; reach = reach; allowance = allowance }; expected = a }
+row table terminal reach allowance a = record { table = table; request = request 0 terminal reach allowance; expected = a }
 
 abbrev pub answerA1 : Answer
 answerA1 = written 0 0 0 2 5000 5000 0 (0 ∷ 1 ∷ []) (2 ∷ 3 ∷ [])
@@ -82,6 +103,15 @@ answerB1 =
       reply = 0 ∷ 2 ∷ 2 ∷ 1 ∷ 3 ∷ 0 ∷ 0 ∷ 0 ∷ 2 ∷ 0 ∷ 0 ∷ 0 ∷ 232 ∷ 3 ∷ 0 ∷ 0 ∷ 184 ∷ 11 ∷ 0 ∷ 0 ∷ 0 ∷ 0 ∷ 0 ∷ 0 ∷ 6 ∷ 0 ∷ 0 ∷ 0 ∷ 0 ∷ 0 ∷ 0 ∷ 0
           ∷ 0 ∷ 255 ∷ 255 ∷ 255 ∷ 255 ∷ 255 ∷ 255 ∷ 255 ∷ 255 ∷ 255 ∷ 255 ∷ 255 ∷ 255 ∷ 255 ∷ 255 ∷ 255 ∷ 255 ∷ 255 ∷ 255 ∷ 255 ∷ 255 ∷ 255 ∷ 255 ∷ 255 ∷ 255 ∷ 255 ∷ 255 ∷ 255 ∷ 255 ∷ 255 ∷ 255 ∷ 255
           ∷ 2 ∷ 3 ∷ 4 ∷ 255 ∷ 255 ∷ 255 ∷ 255 ∷ 255 ∷ 255 ∷ 255 ∷ 255 ∷ 255 ∷ 255 ∷ 255 ∷ 255 ∷ 255 ∷ 255 ∷ 255 ∷ 255 ∷ 255 ∷ 255 ∷ 255 ∷ 255 ∷ 255 ∷ 255 ∷ 255 ∷ 255 ∷ 255 ∷ 255 ∷ 255 ∷ 255 ∷ 255 ∷ [];
+    }
+
+-- of meshRaw: arc 0 with arc 1, 1,193,016 m and 1,193,017 m; the two of them share just what lies on every route
+abbrev pub answerRaw : Answer
+answerRaw =
+    record {
+      number = 0;
+      reply = 0 ∷ 3 ∷ 3 ∷ 1 ∷ 1 ∷ 0 ∷ 0 ∷ 0 ∷ 2 ∷ 0 ∷ 0 ∷ 0 ∷ 56 ∷ 52 ∷ 18 ∷ 0 ∷ 57 ∷ 52 ∷ 18 ∷ 0 ∷ 0 ∷ 0 ∷ 0 ∷ 0 ∷ 128 ∷ 1 ∷ 0 ∷ 0 ∷ 0 ∷ 0 ∷ 0 ∷ 128 ∷ []
+          ++ places (0 ∷ []) ++ places (1 ∷ []);
     }
 
 abbrev pub rows : List Row
@@ -102,6 +132,9 @@ rows =
     ∷ row meshParallel 1 10000 1000 (written 0 0 0 2 4000 6000 0 (2 ∷ []) (3 ∷ []))
     ∷ row meshTie 1 10000 1000 (written 0 0 0 1 1000 1000 0 (0 ∷ []) (2 ∷ []))
     ∷ row meshZero 2 0 1000 (written 0 0 0 1 0 0 0 (0 ∷ 2 ∷ []) (3 ∷ []))
+    ∷ row meshRaw 1 10000000 1000 answerRaw
+    ∷ row meshLong 31 62000000 1000000 (written 0 31 31 1 62000000 62000000 2147483647 (numbers 0 31) (numbers 0 31))
+    ∷ row meshLong 31 61999999 1000000 (refuse 10)
     ∷ []
 
 -- every row at once, with a buffer of 96 bytes
@@ -109,12 +142,11 @@ pub starred : map (λ r. answer (r .table) (r .request) 96) rows ≡ map (λ r. 
 unfolding opened
 starred = refl
 
--- every fault at once, then mended one after the other: the number is always that of the first check that applies
+-- every fault at once, then mended one after the other (`checked-in-order` of proofs/Promises.antt has the order for every call)
 abbrev pub number : List ℕ → (source terminal reach allowance size : ℕ) → ℕ
-number table source terminal reach allowance size =
-    answer table (record { source = source; terminal = terminal; reach = reach; allowance = allowance }) size .number
+number table source terminal reach allowance size = answer table (request source terminal reach allowance) size .number
 
-pub checked-in-order
+pub fault-by-fault
     : number (replicate 2049 0) 32 32 62000001 0 95
     ∷ number (replicate 2047 0) 32 32 62000001 0 95
     ∷ number (arc 0 32 2000001 0) 32 32 62000001 0 95
@@ -126,33 +158,88 @@ pub checked-in-order
     ∷ number (arc 0 32 2000001 0) 0 1 62000000 1000000 96
     ∷ number (arc 0 31 2000001 0) 0 1 62000000 1000000 96
     ∷ number (0 ∷ 31 ∷ 1 ∷ replicate 13 0) 0 1 62000000 1000000 96
+    ∷ number (0 ∷ 31 ∷ 0 ∷ 1 ∷ replicate 12 0) 0 1 62000000 1000000 96
+    ∷ number (0 ∷ 31 ∷ replicate 5 0 ++ 1 ∷ replicate 8 0) 0 1 62000000 1000000 96
+    ∷ number (32 ∷ 31 ∷ replicate 14 0) 0 1 62000000 1000000 96
     ∷ number (replicate 2048 0) 0 1 62000000 1000000 96
+    ∷ number (meshA ++ arc 7 7 0 0) 0 3 10000 1000 96
     ∷ number (arc 0 31 2000000 0) 0 1 62000000 1000000 96
     ∷ number (arc 0 31 2000000 0) 0 31 62000000 1000000 96
     ∷ []
-    ≡ 2 ∷ 3 ∷ 4 ∷ 5 ∷ 6 ∷ 7 ∷ 8 ∷ 8 ∷ 9 ∷ 9 ∷ 9 ∷ 9 ∷ 10 ∷ 0 ∷ []
+    ≡ 2 ∷ 3 ∷ 4 ∷ 5 ∷ 6 ∷ 7 ∷ 8 ∷ 8 ∷ 9 ∷ 9 ∷ 9 ∷ 9 ∷ 9 ∷ 9 ∷ 9 ∷ 9 ∷ 10 ∷ 0 ∷ []
 unfolding opened
-checked-in-order = refl
+fault-by-fault = refl
+
+-- of several faults of an arc the first is told, in the order node, equal ends, length, spare
+pub first-faults
+    : map (λ b. faultOf (arcOf b))
+    ((0 ∷ 32 ∷ 1 ∷ 0 ∷ bytesOf 4 2000001 ++ bytesOf 8 0)
+    ∷ (32 ∷ 32 ∷ 1 ∷ 0 ∷ bytesOf 4 2000001 ++ bytesOf 8 0)
+    ∷ (31 ∷ 31 ∷ 1 ∷ 0 ∷ bytesOf 4 2000001 ++ bytesOf 8 0)
+    ∷ (0 ∷ 31 ∷ 1 ∷ 0 ∷ bytesOf 4 2000001 ++ bytesOf 8 0)
+    ∷ (0 ∷ 31 ∷ 1 ∷ 0 ∷ bytesOf 4 2000000 ++ bytesOf 8 0)
+    ∷ (31 ∷ 0 ∷ 0 ∷ 0 ∷ bytesOf 4 2000000 ++ bytesOf 8 0)
+    ∷ [])
+    ≡ Node ∷ Node ∷ EqualEnds ∷ Length ∷ Spare ∷ Sound ∷ []
+unfolding opened
+first-faults = refl
 
 -- K: the kilometres of 0, 1, 1,000, 1,001 and 31,984 metres
 pub starred-K : map kilometres (0 ∷ 1 ∷ 1000 ∷ 1001 ∷ 31984 ∷ []) ≡ 0 ∷ 1 ∷ 1 ∷ 2 ∷ 32 ∷ []
 unfolding opened
 starred-K = refl
 
--- A1 as the program reads it, and its whole output
-abbrev pub requestA1 : List ℕ
-requestA1 = 0 ∷ 3 ∷ 0 ∷ 0 ∷ [] ++ bytesOf 4 10000 ++ bytesOf 4 1000 ++ bytesOf 4 0
+-- a request as the program reads it
+abbrev pub asked : (source terminal reach allowance : ℕ) → List ℕ
+asked source terminal reach allowance = source ∷ terminal ∷ 0 ∷ 0 ∷ [] ++ bytesOf 4 reach ++ bytesOf 4 allowance ++ bytesOf 4 0
 
-pub printed-A1 : output (requestA1 ++ meshA) ≡ text "settled 0 0 2\nmain 5 0 1\nstandby 5 2 3\n"
+-- the whole output: A1; A2, which is stopped and has routes of unequal length; K's sixteen spans of 1,999 m; refusals of one digit and of two
+pub printed-A1 : output (asked 0 3 10000 1000 ++ meshA) ≡ text "settled 0 0 2\nmain 5 0 1\nstandby 5 2 3\n"
 unfolding opened
 printed-A1 = refl
 
--- an input under 16 bytes
-pub printed-short : output [] ≡ text "refused 12\n"
+pub printed-A2 : output (asked 0 3 10000 1 ++ meshA) ≡ text "stopped 1 0 1\nmain 3 0 4 3\nstandby 5 0 1\n"
 unfolding opened
-printed-short = refl
+printed-A2 = refl
 
--- the side table of mesh A: free of risk 0 the terminal is 5,000 m from the source; free of 1 and 3 it cannot be reached
+pub printed-K
+    : output (asked 0 16 62000000 1 ++ line 1999 0 16)
+    ≡ text "settled 16 16 1\nmain 32 0 1 2 3 4 5 6 7 8 9 10 11 12 13 14 15\nstandby 32 0 1 2 3 4 5 6 7 8 9 10 11 12 13 14 15\n"
+unfolding opened
+printed-K = refl
+
+pub printed-refusals
+    : map output ((asked 0 3 62000001 1 ++ meshA) ∷ (asked 0 3 2999 1 ++ meshA) ∷ (asked 0 3 10000 16777217 ++ meshA) ∷ [])
+    ≡ text "refused 7\n" ∷ text "refused 10\n" ∷ text "refused 8\n" ∷ []
+unfolding opened
+printed-refusals = refl
+
+-- numbers of one digit and of ten
+pub printed-digits : map (digits 10) (0 ∷ 9 ∷ 10 ∷ 1999 ∷ 4294967295 ∷ []) ≡ text "0" ∷ text "9" ∷ text "10" ∷ text "1999" ∷ text "4294967295" ∷ []
+unfolding opened
+printed-digits = refl
+
+-- number 12, before any other: an input under 16 bytes, and each of the request's six zero bytes where it is not zero; 16 bytes without a fault get past it
+pub printed-12
+    : map output
+    (take 15 (asked 0 3 10000 1)
+    ∷ (32 ∷ 32 ∷ 1 ∷ 0 ∷ replicate 12 0)
+    ∷ (32 ∷ 32 ∷ 0 ∷ 1 ∷ replicate 12 0)
+    ∷ (32 ∷ 32 ∷ replicate 10 0 ++ 1 ∷ 0 ∷ 0 ∷ 0 ∷ [])
+    ∷ (32 ∷ 32 ∷ replicate 10 0 ++ 0 ∷ 1 ∷ 0 ∷ 0 ∷ [])
+    ∷ (32 ∷ 32 ∷ replicate 10 0 ++ 0 ∷ 0 ∷ 1 ∷ 0 ∷ [])
+    ∷ (32 ∷ 32 ∷ replicate 10 0 ++ 0 ∷ 0 ∷ 0 ∷ 1 ∷ [])
+    ∷ (32 ∷ 32 ∷ replicate 14 0)
+    ∷ [])
+    ≡ replicate 7 (text "refused 12\n") ++ text "refused 5\n" ∷ []
+unfolding opened
+printed-12 = refl
+
+-- the side table of mesh A: free of risk 0 the terminal is 5,000 m from the source; free of 1 and 3 it cannot be reached, and the length is then 0
 pub shortest-A : map (λ risks. freeLengths (arcsOf meshA) risks 3 0) (1 ∷ 10 ∷ []) ≡ (5000 ∷ []) ∷ [] ∷ []
 unfolding opened
 shortest-A = refl
+
+pub shortest-lengths : map (λ risks. shortest (arcsOf meshA) risks 3 0) (0 ∷ 1 ∷ 10 ∷ []) ≡ 3000 ∷ 5000 ∷ 0 ∷ []
+unfolding opened
+shortest-lengths = refl
