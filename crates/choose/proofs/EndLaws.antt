@@ -11,8 +11,7 @@ use Rattle.laws.specs.Choosing.{keep}
 use Rattle.laws.proofs.ListLaws.{getD-mem}
 use Rattle.problem.specs.Table.{mostAllowance}
 use Rattle.problem.specs.Routes.{Route, routeOf}
-use Rattle.problem.specs.Pairs.{Pair, pair, noRoute, sharedCount, total, best, settledByLength, leastSettled, ranked, verdict}
-use Rattle.problem.proofs.PairLaws.{Step}
+use Rattle.problem.specs.Pairs.{Pair, pair, noRoute, Step, sharedCount, total, best, settledByLength, leastSettled, ranked, verdict}
 use Rattle.problem.proofs.SettleLaws.{ByLength, by-length, settled-by, least-settled}
 use Rattle.problem.proofs.CallLaws.{verdict-settled, verdict-stopped}
 use Rattle.problem.proofs.WindowLaws.{count, shorter, half, main-half, not-yet, last-only, counted, counted-shorter, counted-half, counted-best}

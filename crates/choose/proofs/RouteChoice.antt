@@ -21,9 +21,9 @@ use Rattle.laws.proofs.SetLaws.{digit, ones-le}
 use Rattle.problem.specs.declared.Arc.{Arc}
 use Rattle.problem.specs.Table.{mostArcs, mostReach}
 use Rattle.problem.specs.Routes.{Route, routeOf, routesFrom, metresOf, within, precedes, ranking}
-use Rattle.problem.specs.Pairs.{Pair, pair, noRoute, sharedRisks, sharedCount, total, best}
+use Rattle.problem.specs.Pairs.{Pair, pair, noRoute, Step, sharedRisks, sharedCount, total, best}
 use Rattle.problem.proofs.RankingLaws.{key-total, precedes-weak, ranking-strict, ranking-out, ranking-beginning}
-use Rattle.problem.proofs.PairLaws.{Step, best-mem, best-main}
+use Rattle.problem.proofs.PairLaws.{best-mem, best-main}
 use Rattle.problem.proofs.GrowthOrder.{grow-in-order, precedes-same-length}
 use Rattle.problem.proofs.WindowLaws.{count, shorter, place-le}
 use Rattle.keys.specs.Keys.{standbyKey, pairKey, keyOf, boundFor, pairOf}

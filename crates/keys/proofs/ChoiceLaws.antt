@@ -17,9 +17,9 @@ use Rattle.laws.proofs.SortLaws.{Strict}
 use Rattle.problem.specs.declared.Arc.{Arc}
 use Rattle.problem.specs.Table.{mostReach}
 use Rattle.problem.specs.Routes.{Route, routeOf, rankKey, precedes, ranking}
-use Rattle.problem.specs.Pairs.{Pair, pair, sharedCount, total, judgeKey, judged, NoWorse, noRoute, best}
+use Rattle.problem.specs.Pairs.{Pair, pair, sharedCount, total, judgeKey, judged, NoWorse, noRoute, Step, best}
 use Rattle.problem.proofs.RankingLaws.{key-total, ranking-out}
-use Rattle.problem.proofs.PairLaws.{pairs-in, pairs-out, judged-no-worse, Step, best-least, best-mem, best-main}
+use Rattle.problem.proofs.PairLaws.{pairs-in, pairs-out, judged-no-worse, best-least, best-mem, best-main}
 use Rattle.keys.specs.Keys.{pairKey, keyOf}
 use Rattle.problem.proofs.WindowLaws.{not-precedes-metres, judged-ahead, place-le, route-unique}
 

@@ -13,11 +13,11 @@ use Rattle.laws.proofs.ListLaws.{getD-mem, length-keep}
 use Rattle.laws.proofs.SetLaws.{ones-le}
 use Rattle.problem.specs.Table.{mostArcs, mostReach}
 use Rattle.problem.specs.Routes.{Route, routeOf, metresOf, within, grow}
-use Rattle.problem.specs.Pairs.{noRoute, sharedCount, total, best, commonRisks, floor, settledByLength}
+use Rattle.problem.specs.Pairs.{noRoute, Step, sharedCount, total, best, commonRisks, floor, settledByLength}
 use Rattle.problem.proofs.GrowthLaws.{grow-source, grow-way}
 use Rattle.problem.proofs.ReplyLaws.{sound-heads}
 use Rattle.problem.proofs.RankingLaws.{Listed, ranking-out}
-use Rattle.problem.proofs.PairLaws.{Step, best-main, best-mem}
+use Rattle.problem.proofs.PairLaws.{best-main, best-mem}
 use Rattle.problem.proofs.WindowLaws.{count, shorter}
 use Rattle.keys.specs.Keys.{pairKey, keyOf, noKey}
 use Rattle.keys.proofs.ChoiceLaws.{InReach, ranking-in-reach, pair-fits}

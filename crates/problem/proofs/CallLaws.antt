@@ -11,11 +11,11 @@ use borrow.Author.Tests.{leb-true, leb-false, le-leb, lt-leb, ltb-true, ltb-fals
 use Rattle.laws.proofs.ListLaws.{getD-mem}
 use Rattle.problem.specs.Table.{arcsOf}
 use Rattle.problem.specs.Routes.{Route, routeOf}
-use Rattle.problem.specs.Pairs.{noRoute, leastSettled, ranked, verdict}
+use Rattle.problem.specs.Pairs.{noRoute, Step, leastSettled, ranked, verdict}
 use Rattle.problem.specs.Reply.{Request, Answer, refusal, answer}
 use Rattle.problem.specs.Calls.{routesOf, RouteOf, Applies}
 use Rattle.problem.proofs.RankingLaws.{ranking-in, ranking-out}
-use Rattle.problem.proofs.PairLaws.{Step, best-mem, best-main}
+use Rattle.problem.proofs.PairLaws.{best-mem, best-main}
 use Rattle.problem.proofs.ReplyLaws.{Passed, answered, Outcome, outcome, passed-refusal, sound-heads, ranked-step, route-range}
 use Rattle.problem.proofs.CheckLaws.{NoneBelow, Told, refusal-told, Later, passed-later, passed-below}
 

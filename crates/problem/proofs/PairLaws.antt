@@ -1,6 +1,6 @@
 -- Pairs: who is among them, the judgement, the best pair of a step, the floor. Assumes nothing.
 use mathlib.Core.Path.{_≡_, refl, sym, ap, ap₂, _∙_}
-use mathlib.Core.Logic.{_⊎_, inl, inr}
+use mathlib.Core.Logic.{_⊎_, inl, inr, _↔_}
 use mathlib.Core.Bool.{Bool, true, false, _&&_, _||_, not}
 use mathlib.Core.List.{List, [], _∷_, map, List·Memᴰ, List·Memᴰ·head, List·Memᴰ·tail, List·Memᴰ·not-nil, List·Memᴰ·append-cases, Memᴰ·append-left, Memᴰ·append-right, Memᴰ·cast, Memᴰ·map, Memᴰ·of-map, head-eq-of-cons-eq, tail-eq-of-cons-eq}
 use Prim.Native.Nat.{ℕ, zero, suc, _-_, _/_, _^_, _≤_, _<_}
@@ -15,13 +15,13 @@ use borrow.Author.Tests.{ltb-true, ltb-false, lt-ltb, le-ltb}
 use Rattle.laws.specs.Choosing.{lexBy}
 use Rattle.laws.specs.Sets.{bit, inBoth}
 use Rattle.laws.proofs.ListLaws.{getD-mem, getD-take-mem, take-more, take-mem}
-use Rattle.laws.proofs.OrderLaws.{Total, Weak, total-weak, keyed-weak, ltb-total, lex-total, lex-true, lex-false, lex-lt, lex-eq}
+use Rattle.laws.proofs.OrderLaws.{Total, Weak, weak-asym, total-weak, keyed-weak, ltb-total, lex-total, lex-false, lex-lt, lex-eq}
 use Rattle.laws.proofs.FirstLaws.{first-mem, first-least}
 use Rattle.laws.proofs.SortLaws.{Strict, place-order}
 use Rattle.laws.proofs.SetLaws.{bit-zero, bit-suc, bit-and, ones-mono, ones-common}
 use Rattle.problem.specs.Table.{riskWidth}
 use Rattle.problem.specs.Routes.{Route, rankKey, precedes}
-use Rattle.problem.specs.Pairs.{Pair, pair, sharedRisks, sharedCount, total, judgeKey, judged, NoWorse, pairsOf, noRoute, ofRank, rankedKey, best, commonRisks, floor}
+use Rattle.problem.specs.Pairs.{Pair, pair, sharedRisks, sharedCount, total, judgeKey, judged, NoWorse, pairsOf, noRoute, Step, ofRank, rankedKey, best, commonRisks, floor}
 use Rattle.problem.proofs.RankingLaws.{key-total, precedes-weak}
 
 -- ---- who is among the pairs
@@ -74,11 +74,6 @@ unfolding lexBy
 lex-flat n t n′ t′ x y x′ y′ i k i′ k′ a b c d =
     rw (a, b, c, d) (flat (ltb n n′) (ltb n′ n) (ltb t t′) (ltb t′ t) (ltb i i′ || (not (ltb i′ i) && (ltb k k′ || (not (ltb k′ k) && false)))))
 
--- a step of the ranking
-pub record Step (routes : List Route) (j : ℕ) : Type 0 where
-  pub from-one : 0 < j
-  pub to-N : j ≤ length routes
-
 ltb-pred : (i k : ℕ) → 0 < i → 0 < k → ltb (i - 1) (k - 1) ≡ ltb i k
 ltb-pred i k h b = go (ltb i k) refl
   where
@@ -97,30 +92,41 @@ judged-by-rank routes strict {m} {s} {m′} {s′} a b c d = lex-flat _ _ _ _ _ 
         place-order precedes precedes-weak noRoute routes strict (i - 1) (k - 1) (omega (arith, x .from-one, x .to-N)) (omega (arith, y .from-one, y .to-N))
         ∙ ltb-pred i k (x .from-one) (y .from-one)
 
+-- of two lists of one number
+single : (d b : ℕ) → b ≤ d → lexBy ltb (d ∷ []) (b ∷ []) ≡ false
+unfolding lexBy
+single d b l = rw (le-ltb d b l) (none (not (ltb b d)))
+  where
+    none : (x : Bool) → (x && false) ≡ false
+    none true = refl
+    none false = refl
+
+-- no worse exactly where the other is not before it by shared count and then total
+pub no-worse-exactly : (a b c d : ℕ) → NoWorse a b c d ↔ (lexBy ltb (c ∷ d ∷ []) (a ∷ b ∷ []) ≡ false)
+no-worse-exactly a b c d = (to, λ h. by-shared (lex-false ltb ltb-total c (d ∷ []) a (b ∷ []) h))
+  where
+    to : NoWorse a b c d → lexBy ltb (c ∷ d ∷ []) (a ∷ b ∷ []) ≡ false
+    to (NoWorse.fewer l) = weak-asym (total-weak key-total) (a ∷ b ∷ []) (c ∷ d ∷ []) (lex-lt ltb ltb-total a (b ∷ []) c (d ∷ []) (lt-ltb a c l))
+    to (NoWorse.as-many e l) = lex-eq ltb ltb-total c (d ∷ []) a (b ∷ []) (sym e) ∙ single d b l
+
+    by-total : c ≡ a → (ltb b d ≡ true) ⊎ ((d ≡ b) × (lexBy ltb [] [] ≡ false)) → NoWorse a b c d
+    by-total e (inl l) = NoWorse.as-many (sym e) (omega (arith, ltb-true b d l))
+    by-total e (inr l) = NoWorse.as-many (sym e) (omega arith)
+
+    by-shared : (ltb a c ≡ true) ⊎ ((c ≡ a) × (lexBy ltb (d ∷ []) (b ∷ []) ≡ false)) → NoWorse a b c d
+    by-shared (inl l) = NoWorse.fewer (ltb-true a c l)
+    by-shared (inr l) = by-total (l .0) (lex-false ltb ltb-total d [] b [] (l .1))
+
 -- what the first place of the judgement says
 pub judged-no-worse : (p q : Pair) → judged q p ≡ false → NoWorse (sharedCount p) (total p) (sharedCount q) (total q)
 unfolding judged judgeKey
-judged-no-worse p q h = go (lex-false (lexBy ltb) key-total _ _ _ _ h)
+judged-no-worse p q h = no-worse-exactly (sharedCount p) (total p) (sharedCount q) (total q) .1 (go (lex-false (lexBy ltb) key-total _ _ _ _ h))
   where
-    first : (lexBy ltb (sharedCount p ∷ total p ∷ []) (sharedCount q ∷ total q ∷ []) ≡ true) → NoWorse (sharedCount p) (total p) (sharedCount q) (total q)
-    first e = by-shared (lex-true ltb ltb-total (sharedCount p) (total p ∷ []) (sharedCount q) (total q ∷ []) e)
-      where
-        by-total : sharedCount p ≡ sharedCount q → (ltb (total p) (total q) ≡ true) ⊎ ((total p ≡ total q) × (lexBy ltb [] [] ≡ true)) → NoWorse (sharedCount p) (total p) (sharedCount q) (total q)
-        by-total f (inl l) = NoWorse.as-many f (omega (arith, ltb-true (total p) (total q) l))
-        by-total f (inr l) = NoWorse.as-many f (omega arith)
-
-        by-shared : (ltb (sharedCount p) (sharedCount q) ≡ true) ⊎ ((sharedCount p ≡ sharedCount q) × (lexBy ltb (total p ∷ []) (total q ∷ []) ≡ true)) → NoWorse (sharedCount p) (total p) (sharedCount q) (total q)
-        by-shared (inl l) = NoWorse.fewer (ltb-true (sharedCount p) (sharedCount q) l)
-        by-shared (inr l) = by-total (l .0) (lex-true ltb ltb-total (total p) [] (total q) [] (l .1))
-
     go : (lexBy ltb (sharedCount p ∷ total p ∷ []) (sharedCount q ∷ total q ∷ []) ≡ true)
         ⊎ (((sharedCount q ∷ total q ∷ []) ≡ (sharedCount p ∷ total p ∷ [])) × (lexBy (lexBy ltb) (rankKey (q .main) ∷ rankKey (q .standby) ∷ []) (rankKey (p .main) ∷ rankKey (p .standby) ∷ []) ≡ false))
-        → NoWorse (sharedCount p) (total p) (sharedCount q) (total q)
-    go (inl e) = first e
-    go (inr e) =
-        let n : sharedCount q ≡ sharedCount p = head-eq-of-cons-eq (e .0) in
-        let m : total q ≡ total p = head-eq-of-cons-eq (tail-eq-of-cons-eq (e .0)) in
-        NoWorse.as-many (sym n) (omega arith)
+        → lexBy ltb (sharedCount q ∷ total q ∷ []) (sharedCount p ∷ total p ∷ []) ≡ false
+    go (inl e) = weak-asym (total-weak key-total) _ _ e
+    go (inr e) = ap (λ (l : List ℕ). lexBy ltb l (sharedCount p ∷ total p ∷ [])) (e .0) ∙ key-total .irrefl (sharedCount p ∷ total p ∷ [])
 
 -- ---- routes with fewer risks share no more
 

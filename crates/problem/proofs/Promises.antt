@@ -4,7 +4,7 @@
 use mathlib.Core.Path.{_≡_, refl, sym, ap, _∙_, subst}
 use mathlib.Core.Bool.{Bool, true, false}
 use mathlib.Core.Logic.{_⊎_, _↔_}
-use mathlib.Core.List.{List, _++_, List·Memᴰ}
+use mathlib.Core.List.{List, [], _∷_, _++_, List·Memᴰ}
 use Prim.Native.Nat.{ℕ, _*_, _≤_, _<_, min}
 use native.Mathlib.Omega.{arith}
 use lib.Dec.{ltb}
@@ -16,14 +16,14 @@ use Rattle.laws.specs.Sets.{inBoth}
 use Rattle.problem.specs.declared.Arc.{Arc}
 use Rattle.problem.specs.Table.{riskWidth, mostAllowance, replySize, Bytes, arcsOf}
 use Rattle.problem.specs.Routes.{Route, metresOf, routeOf, precedes}
-use Rattle.problem.specs.Pairs.{Pair, pair, sharedRisks, sharedCount, total, judged, NoWorse, ofRank, rankedKey, floor, leastSettled, ranked}
+use Rattle.problem.specs.Pairs.{Pair, pair, sharedRisks, sharedCount, total, judged, NoWorse, Step, ofRank, rankedKey, floor, leastSettled, ranked}
 use Rattle.problem.specs.Reply.{Request, answer, after, verdictIn, sharedIn, floorIn, rankedIn, mainMetresIn, standbyMetresIn, totalIn, sharedRisksIn, mainIn, standbyIn}
 use Rattle.problem.specs.Printed.{kilometres}
 use Rattle.problem.specs.Calls.{routesOf, RouteOf, WayOf, pairMadeOf, pairSaid, allowing, Applies}
 use Rattle.problem.proofs.RankingLaws.{ranking-exact, ranking-strict}
 use Rattle.problem.proofs.PairLaws as PairLaws
 use Rattle.problem.proofs.ReplyLaws.{sound-heads}
-use Rattle.problem.proofs.CallLaws.{low-number, high-number, number-range, refused-told, answered-none, numbered}
+use Rattle.problem.proofs.CallLaws.{WithPair, low-number, high-number, number-range, refused-told, answered-none, numbered}
 use Rattle.problem.proofs.SaidLaws as Said
 
 module _ (table : List ℕ) (q : Request) (size : ℕ) where
@@ -88,99 +88,99 @@ module _ (table : List ℕ) (q : Request) (size : ℕ) where
   pub ranking-in-order : Pairwise (λ (r s : Route). precedes r s ≡ true) routes
   ranking-in-order = ranking-strict arcs (q .source) (q .terminal) (q .reach)
 
-  pub judged-by-rank : (m s m′ s′ : ℕ) → 0 < m → m ≤ length routes → 0 < s → s ≤ length routes → 0 < m′ → m′ ≤ length routes → 0 < s′ → s′ ≤ length routes
+  pub judged-by-rank : {m s m′ s′ : ℕ} → Step routes m → Step routes s → Step routes m′ → Step routes s′
       → judged (pair (ofRank routes m) (ofRank routes s)) (pair (ofRank routes m′) (ofRank routes s′)) ≡ lexBy ltb (rankedKey routes m s) (rankedKey routes m′ s′)
-  judged-by-rank m s m′ s′ a b c d e f g h =
-      PairLaws.judged-by-rank routes ranking-in-order (record { from-one = a; to-N = b }) (record { from-one = c; to-N = d }) (record { from-one = e; to-N = f }) (record { from-one = g; to-N = h })
+  judged-by-rank = PairLaws.judged-by-rank routes ranking-in-order
 
   module _ (answered : number < 2) where
+    w : WithPair table q size
+    w = low-number table q size answered
+
     -- the ranking has every route and nothing else
     pub ranking-has : (ks : List ℕ) → List·Memᴰ (routeOf arcs ks) routes ↔ RouteOf table q ks
     ranking-has ks =
-        let p = low-number table q size answered .passed in
-        ranking-exact arcs (q .source) (q .terminal) (q .reach) (sound-heads arcs (p .sound)) (omega (arith, p .source-node)) ks
+        ranking-exact arcs (q .source) (q .terminal) (q .reach) (sound-heads arcs (w .passed .sound)) (omega (arith, w .passed .source-node)) ks
 
     -- the arc numbers in the bytes are routes
     pub reply-routes : RouteOf table q (mainIn reply) × RouteOf table q (standbyIn reply)
-    reply-routes = Said.said-routes (low-number table q size answered)
+    reply-routes = Said.said-routes w
 
     -- of exactly the metres that the bytes say
     pub reply-metres : (mainMetresIn reply ≡ metresOf arcs (mainIn reply)) × (standbyMetresIn reply ≡ metresOf arcs (standbyIn reply))
-    reply-metres = Said.said-metres (low-number table q size answered)
+    reply-metres = Said.said-metres w
 
     -- that share as many as the bytes say, and just those risks
     pub reply-shared : sharedIn reply ≡ sharedCount (pairSaid arcs reply)
-    reply-shared = Said.said-shared (low-number table q size answered)
+    reply-shared = Said.said-shared w
 
     pub reply-risks : Bytes table → sharedRisksIn reply ≡ sharedRisks (pairSaid arcs reply)
-    reply-risks = Said.said-risks (low-number table q size answered)
+    reply-risks = Said.said-risks w
 
     -- the main is among the first `allowance` routes, the standby is any route
     pub main-allowed : List·Memᴰ (pairSaid arcs reply .main) (take (q .allowance) routes)
-    main-allowed = let w = low-number table q size answered in subst (λ (p : Pair). List·Memᴰ (p .main) (take (q .allowance) routes)) (sym (Said.said-is w)) (Said.main-allowed w)
+    main-allowed = subst (λ (p : Pair). List·Memᴰ (p .main) (take (q .allowance) routes)) (sym (Said.said-is w)) (Said.main-allowed w)
 
     pub standby-any : List·Memᴰ (pairSaid arcs reply .standby) routes
-    standby-any = let w = low-number table q size answered in subst (λ (p : Pair). List·Memᴰ (p .standby) routes) (sym (Said.said-is w)) (Said.standby-listed w)
+    standby-any = subst (λ (p : Pair). List·Memᴰ (p .standby) routes) (sym (Said.said-is w)) (Said.standby-listed w)
 
     -- no such pair comes before it
     pub none-before : (m s : Route) → List·Memᴰ m (take (q .allowance) routes) → List·Memᴰ s routes → judged (pair m s) (pairSaid arcs reply) ≡ false
-    none-before m s x y = let w = low-number table q size answered in rw (Said.said-is w) (Said.none-before w x y)
+    none-before m s x y = rw (Said.said-is w) (Said.none-before w x y)
 
     -- every other such pair comes after it
     pub others-after : (m s : Route) → List·Memᴰ m (take (q .allowance) routes) → List·Memᴰ s routes → (pair m s ≡ pairSaid arcs reply) ⊎ (judged (pairSaid arcs reply) (pair m s) ≡ true)
-    others-after m s x y = let w = low-number table q size answered in rw (Said.said-is w) (Said.others-after w x y)
+    others-after m s x y = rw (Said.said-is w) (Said.others-after w x y)
 
     -- the main's rank never exceeds the standby's
     pub main-not-behind : precedes (pairSaid arcs reply .standby) (pairSaid arcs reply .main) ≡ false
-    main-not-behind = let w = low-number table q size answered in subst (λ (p : Pair). precedes (p .standby) (p .main) ≡ false) (sym (Said.said-is w)) (Said.main-first w)
+    main-not-behind = subst (λ (p : Pair). precedes (p .standby) (p .main) ≡ false) (sym (Said.said-is w)) (Said.main-first w)
 
     -- ==== Demand 3. "'Settled' exactly by 01's rule, and then: no two ways within reach, loops or the same way twice allowed, do better;
     -- ==== every larger permitted allowance gives the same reply; unsettled replies never get worse; an allowance of at least N settles."
 
     -- the numbers of the reply: the verdict is the number returned, the floor is that of all routes, and ranked is the smaller of J and the allowance
     pub verdict-said : verdictIn reply ≡ number
-    verdict-said = Said.verdict-in (low-number table q size answered)
+    verdict-said = Said.verdict-in w
 
     pub floor-said : floorIn reply ≡ floor routes
-    floor-said = Said.floor-in (low-number table q size answered)
+    floor-said = Said.floor-in w
 
     pub ranked-said : rankedIn reply ≡ min (leastSettled routes) (q .allowance)
     unfolding ranked
-    ranked-said = Said.ranked-in (low-number table q size answered)
+    ranked-said = Said.ranked-in w
 
     -- settled exactly where every route was tried as main, or the pair shares only what lies on every route and twice the length of the last main tried is at least its total
     pub settled-exactly : (number ≡ 0)
         ↔ ((rankedIn reply ≡ length routes) ⊎ ((sharedCount (pairSaid arcs reply) ≡ floor routes) × (total (pairSaid arcs reply) ≤ 2 * ofRank routes (rankedIn reply) .metres)))
-    settled-exactly = let w = low-number table q size answered in rw (Said.said-is w, Said.ranked-in w) (Said.settled-tests w)
+    settled-exactly = rw (Said.said-is w, Said.ranked-in w) (Said.settled-tests w)
 
     -- exactly where J is within the allowance; else stopped
     pub settled-within : (number ≡ 0) ↔ (leastSettled routes ≤ q .allowance)
-    settled-within = Said.settled-number (low-number table q size answered)
+    settled-within = Said.settled-number w
 
     pub stopped-past : (number ≡ 1) ↔ (q .allowance < leastSettled routes)
-    stopped-past = Said.stopped-number (low-number table q size answered)
+    stopped-past = Said.stopped-number w
 
     -- settled: no two ways within reach, loops or the same way twice allowed, share fewer, or as many at a smaller total
     pub settled-no-better : number ≡ 0 → (u v : List ℕ) → WayOf table q u → WayOf table q v
         → NoWorse (sharedIn reply) (totalIn reply) (sharedCount (pairMadeOf arcs u v)) (total (pairMadeOf arcs u v))
-    settled-no-better e u v = Said.no-better-ways (low-number table q size answered) e {u = u} {v = v}
+    settled-no-better e u v = Said.no-better-ways w e {u = u} {v = v}
 
     -- an allowance of at least N settles
     pub all-routes-settle : length routes ≤ q .allowance → number ≡ 0
-    all-routes-settle = Said.enough (low-number table q size answered)
+    all-routes-settle = Said.enough w
 
     -- and for every larger permitted allowance:
     module _ (b : ℕ) (more : q .allowance ≤ b) (permitted : b ≤ mostAllowance) where
       -- settled: the same number and the same 96 bytes
       pub settled-stays : number ≡ 0 → answer table (allowing q b) size ≡ answer table q size
-      settled-stays = Said.same-answer (low-number table q size answered) b more permitted
+      settled-stays = Said.same-answer w b more permitted
 
       -- settled or stopped: answered, no worse, and by the whole judgement no later
       pub never-worse : (answer table (allowing q b) size .number < 2)
           × NoWorse (sharedIn (answer table (allowing q b) size .reply)) (totalIn (answer table (allowing q b) size .reply)) (sharedIn reply) (totalIn reply)
           × (judged (pairSaid arcs reply) (pairSaid arcs (answer table (allowing q b) size .reply)) ≡ false)
       never-worse =
-          let w = low-number table q size answered in
           (Said.larger-answered w b more permitted, Said.no-worse-pair w b more permitted, rw (Said.said-is w, Said.said-is (Said.pair-allowing b w more permitted)) (Said.no-later w b more permitted))
 
 -- ==== Of any pair, and of any length
@@ -188,6 +188,10 @@ module _ (table : List ℕ) (q : Request) (size : ℕ) where
 -- the shared count is the size of the common risk set: of the 64 risks, how many are on both routes
 pub shared-size : (p : Pair) → sharedCount p ≡ length (inBoth riskWidth (p .main .risks) (p .standby .risks))
 shared-size = PairLaws.shared-size
+
+-- no worse, in shared count and total, exactly where the other does not share fewer, or as many at a smaller total
+pub no-worse-exactly : (a b c d : ℕ) → NoWorse a b c d ↔ (lexBy ltb (c ∷ d ∷ []) (a ∷ b ∷ []) ≡ false)
+no-worse-exactly = PairLaws.no-worse-exactly
 
 -- rounded up: the fewest whole kilometres that the metres fit into
 pub kilometres-up : (metres k : ℕ) → (kilometres metres ≤ k) ↔ (metres ≤ 1000 * k)

@@ -12,13 +12,13 @@ use Rattle.laws.specs.Choosing.{if_then_else_}
 use Rattle.problem.specs.declared.Arc.{Arc}
 use Rattle.problem.specs.Table.{lastNode, mostArcs, mostReach, mostAllowance, mostTableBytes, replySize, bytesOf, arcsOf, arcsNumber, allSound}
 use Rattle.problem.specs.Routes.{Route, routeOf}
-use Rattle.problem.specs.Pairs.{Pair, sharedRisks, sharedCount, best, floor, ranked, verdict}
+use Rattle.problem.specs.Pairs.{Step, Pair, sharedRisks, sharedCount, best, floor, ranked, verdict}
 use Rattle.problem.specs.Reply.{Request, Answer, refuse, placesOf, replyOf, verdictIn, sharedIn, floorIn, rankedIn, mainMetresIn, standbyMetresIn, sharedRisksIn, mainIn, standbyIn, refusal, planned, answerUnless, answer}
 use Rattle.problem.specs.Calls.{routesOf, chosen}
 use Rattle.problem.proofs.ByteLaws.{field-at}
 use Rattle.problem.proofs.TableLaws.{sound-at, sound-number, number-sound, number-nine}
 use Rattle.problem.proofs.RankingLaws.{LowHeads, ranking-out}
-use Rattle.problem.proofs.PairLaws.{Step, best-mem, best-main}
+use Rattle.problem.proofs.PairLaws.{best-mem, best-main}
 use Rattle.problem.proofs.SettleLaws.{least-settled-step}
 
 -- ---- the checks

@@ -12,9 +12,9 @@ use Rattle.laws.proofs.FirstLaws.{Least, least-from}
 use Rattle.laws.proofs.ListLaws.{Place, Early, mem-place, take-place, getD-take-mem, pairwise-at}
 use Rattle.laws.proofs.SortLaws.{Strict, place-order}
 use Rattle.problem.specs.Routes.{Route, precedes}
-use Rattle.problem.specs.Pairs.{pair, sharedCount, total, NoWorse, noRoute, best, floor, settledByLength, settled, leastSettled}
+use Rattle.problem.specs.Pairs.{pair, sharedCount, total, NoWorse, noRoute, Step, best, floor, settledByLength, settled, leastSettled}
 use Rattle.problem.proofs.RankingLaws.{precedes-weak, precedes-metres}
-use Rattle.problem.proofs.PairLaws.{Step, best-least, best-mem, best-main, best-mono, floor-le, judged-no-worse, swap-shared, swap-total, swap-judged}
+use Rattle.problem.proofs.PairLaws.{best-least, best-mem, best-main, best-mono, floor-le, judged-no-worse, swap-shared, swap-total, swap-judged}
 
 -- the two tests of 01's rule, as facts
 pub record ByLength (routes : List Route) (j : ℕ) : Type 0 where

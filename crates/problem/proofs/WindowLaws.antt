@@ -15,9 +15,9 @@ use Rattle.laws.proofs.ListLaws.{Place, Early, mem-place, take-place, getD-mem,
 use Rattle.laws.proofs.OrderLaws.{ltb-total, lex-false, lex-lt, lex-eq}
 use Rattle.laws.proofs.SortLaws.{Strict, place-order, place-unique, keep-beginning}
 use Rattle.problem.specs.Routes.{Route, rankKey, precedes, within}
-use Rattle.problem.specs.Pairs.{Pair, pair, sharedCount, total, judgeKey, judged, NoWorse, noRoute, best, settledByLength, settled, leastSettled, ranked}
+use Rattle.problem.specs.Pairs.{Pair, pair, sharedCount, total, judgeKey, judged, NoWorse, noRoute, Step, best, settledByLength, settled, leastSettled, ranked}
 use Rattle.problem.proofs.RankingLaws.{key-total, precedes-weak, precedes-metres}
-use Rattle.problem.proofs.PairLaws.{judge-total, Step, best-least, best-mem, best-main, best-mono, floor-le}
+use Rattle.problem.proofs.PairLaws.{judge-total, best-least, best-mem, best-main, best-mono, floor-le}
 use Rattle.problem.proofs.SettleLaws.{ByLength, settled-cases, settled-by, least-settled, least-settled-inside, least-settled-step, metres-mono, by-length-mono, settled-mono, main-not-after}
 
 -- how many pass a test

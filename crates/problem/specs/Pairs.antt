@@ -51,6 +51,11 @@ pairsOf (m ∷ mains) standbys = map (λ s. pair m s) standbys ++ pairsOf mains 
 abbrev pub noRoute : Route
 noRoute = record { arcs = []; metres = 0; risks = 0 }
 
+-- a rank, and a step of the ranking: 1 to N
+pub record Step (routes : List Route) (j : ℕ) : Type 0 where
+  pub from-one : 0 < j
+  pub to-N : j ≤ length routes
+
 -- the route of rank j
 abbrev pub ofRank : List Route → ℕ → Route
 ofRank routes j = getD routes (j - 1) noRoute

@@ -15,9 +15,9 @@ use Rattle.laws.proofs.SetLaws.{ones-le}
 use Rattle.problem.specs.declared.Arc.{Arc}
 use Rattle.problem.specs.Table.{mostReach}
 use Rattle.problem.specs.Routes.{Route, within, ranking}
-use Rattle.problem.specs.Pairs.{Pair, sharedRisks, sharedCount, noRoute, best}
+use Rattle.problem.specs.Pairs.{Pair, sharedRisks, sharedCount, noRoute, Step, best}
 use Rattle.problem.proofs.RankingLaws.{ranking-strict, ranking-beginning}
-use Rattle.problem.proofs.PairLaws.{Step, best-mem, best-main}
+use Rattle.problem.proofs.PairLaws.{best-mem, best-main}
 use Rattle.problem.proofs.SettleLaws.{metres-mono}
 use Rattle.problem.proofs.WindowLaws.{count, shorter}
 use Rattle.keys.specs.Keys.{pairKey, keyOf, noKey}
