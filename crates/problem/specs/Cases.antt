@@ -3,12 +3,14 @@
 use Prim.Native.Nat.{ℕ, zero, suc, _-_, _^_}
 use mathlib.Core.List.{List, [], _∷_, _++_, map}
 use mathlib.Core.Path.{_≡_, refl}
+use native.Mathlib.Omega.{arith}
 use lib.ListN.{length, take, replicate}
 use Rattle.problem.specs.declared.Fault.the-variants.{Sound, Node, EqualEnds, Length, Spare}
 use Rattle.problem.specs.Opened.{opened}
-use Rattle.problem.specs.Table.{bytesOf, arcOf, arcsOf, faultOf}
-use Rattle.problem.specs.Routes.{freeLengths, shortest}
-use Rattle.problem.specs.Reply.{Request, request, Answer, answer, refuse}
+use Rattle.problem.specs.Table.{Bytes, bytesOf, arcOf, arcsOf, faultOf}
+use Rattle.problem.specs.Routes.{Way, freeLengths, shortest}
+use Rattle.problem.specs.Reply.{Request, request, Answer, answer, refuse, sharedIn, floorIn, rankedIn, totalIn, sharedRisksIn, mainIn, standbyIn}
+use Rattle.problem.specs.Calls.{WayOf, allowing}
 use Rattle.problem.specs.Printed.{kilometres, text, digits, output}
 
 -- an arc as 01 prints it: tail, head, metres, and the field of its risks
@@ -43,6 +45,10 @@ meshLoop = arc 0 1 1000 3 ++ arc 0 1 1000 6 ++ arc 0 1 1000 5 ++ arc 1 2 500 0 +
 -- our own: an equal total wins by an earlier main, though the other pair has the earlier standby
 abbrev pub meshParallel : List ℕ
 meshParallel = arc 0 1 5000 1 ++ arc 0 1 5000 2 ++ arc 0 1 4000 3 ++ arc 0 1 6000 4
+
+-- our own: with nothing shared, the smaller total wins over the earlier main
+abbrev pub meshTotal : List ℕ
+meshTotal = arc 0 1 1000 3 ++ arc 0 1 2000 1 ++ arc 0 1 2500 2 ++ arc 0 1 9000 4
 
 -- our own: equal lengths everywhere
 abbrev pub meshTie : List ℕ
@@ -130,6 +136,7 @@ rows =
     ∷ row meshE 1 0 1000 (written 0 0 0 1 0 0 0 (0 ∷ []) (0 ∷ []))  -- E2
     ∷ row meshLoop 3 3000 1000 (written 0 1 0 3 2000 2000 2 (0 ∷ 5 ∷ []) (1 ∷ 5 ∷ []))
     ∷ row meshParallel 1 10000 1000 (written 0 0 0 2 4000 6000 0 (2 ∷ []) (3 ∷ []))
+    ∷ row meshTotal 1 10000 1000 (written 0 0 0 3 2000 2500 0 (1 ∷ []) (2 ∷ []))
     ∷ row meshTie 1 10000 1000 (written 0 0 0 1 1000 1000 0 (0 ∷ []) (2 ∷ []))
     ∷ row meshZero 2 0 1000 (written 0 0 0 1 0 0 0 (0 ∷ 2 ∷ []) (3 ∷ []))
     ∷ row meshRaw 1 10000000 1000 answerRaw
@@ -142,6 +149,33 @@ pub starred : map (λ r. answer (r .table) (r .request) 96) rows ≡ map (λ r. 
 unfolding opened
 starred = refl
 
+-- what the bytes of A2 and B1 say, read back as 01 says it: shared, floor, ranked, total, the field of the shared risks; and the arcs
+pub read-back
+    : map (λ r. (sharedIn r ∷ floorIn r ∷ rankedIn r ∷ totalIn r ∷ sharedRisksIn r ∷ []) ∷ mainIn r ∷ standbyIn r ∷ []) (answer meshA (request 0 3 10000 1) 96 .reply ∷ answerB1 .reply ∷ [])
+    ≡ ((1 ∷ 0 ∷ 1 ∷ 8000 ∷ 1 ∷ []) ∷ (0 ∷ 4 ∷ 3 ∷ []) ∷ (0 ∷ 1 ∷ []) ∷ []) ∷ ((2 ∷ 2 ∷ 2 ∷ 4000 ∷ 6 ∷ []) ∷ (0 ∷ []) ∷ (2 ∷ 3 ∷ 4 ∷ []) ∷ []) ∷ []
+unfolding opened
+read-back = refl
+
+-- A2 and A1 differ in their allowance alone
+pub allowed-more : answer meshA (allowing (request 0 3 10000 1) 1000) 96 ≡ answerA1
+unfolding opened
+allowed-more = refl
+
+-- a way may go round a loop, over the same arcs twice, and be exactly as long as the reach
+pub round-twice : WayOf meshLoop (request 0 3 4000 1) (0 ∷ 3 ∷ 4 ∷ 3 ∷ 4 ∷ 5 ∷ [])
+unfolding opened
+round-twice =
+    record {
+      way = Way.over {k = 0} (omega arith) refl (Way.over {k = 3} (omega arith) refl (Way.over {k = 4} (omega arith) refl (Way.over {k = 3} (omega arith) refl (Way.over {k = 4} (omega arith) refl (Way.over {k = 5} (omega arith) refl (Way.there refl))))));
+      within-reach = omega arith;
+    }
+
+-- every byte is one
+pub bytes-to-255 : Bytes (0 ∷ 255 ∷ [])
+bytes-to-255 zero = omega arith
+bytes-to-255 (suc zero) = omega arith
+bytes-to-255 (suc (suc k)) = omega arith
+
 -- every fault at once, then mended one after the other (`checked-in-order` of proofs/Promises.antt has the order for every call)
 abbrev pub number : List ℕ → (source terminal reach allowance size : ℕ) → ℕ
 number table source terminal reach allowance size = answer table (request source terminal reach allowance) size .number
@@ -149,8 +183,11 @@ number table source terminal reach allowance size = answer table (request source
 pub fault-by-fault
     : number (replicate 2049 0) 32 32 62000001 0 95
     ∷ number (replicate 2047 0) 32 32 62000001 0 95
+    ∷ number (replicate 2040 0) 32 32 62000001 0 95
     ∷ number (arc 0 32 2000001 0) 32 32 62000001 0 95
     ∷ number (arc 0 32 2000001 0) 32 32 62000001 0 96
+    ∷ number (arc 0 32 2000001 0) 32 0 62000001 0 96
+    ∷ number (arc 0 32 2000001 0) 0 32 62000001 0 96
     ∷ number (arc 0 32 2000001 0) 31 31 62000001 0 96
     ∷ number (arc 0 32 2000001 0) 0 1 62000001 0 96
     ∷ number (arc 0 32 2000001 0) 0 1 62000000 0 96
@@ -166,7 +203,7 @@ pub fault-by-fault
     ∷ number (arc 0 31 2000000 0) 0 1 62000000 1000000 96
     ∷ number (arc 0 31 2000000 0) 0 31 62000000 1000000 96
     ∷ []
-    ≡ 2 ∷ 3 ∷ 4 ∷ 5 ∷ 6 ∷ 7 ∷ 8 ∷ 8 ∷ 9 ∷ 9 ∷ 9 ∷ 9 ∷ 9 ∷ 9 ∷ 9 ∷ 9 ∷ 10 ∷ 0 ∷ []
+    ≡ 2 ∷ 3 ∷ 3 ∷ 4 ∷ 5 ∷ 5 ∷ 5 ∷ 6 ∷ 7 ∷ 8 ∷ 8 ∷ 9 ∷ 9 ∷ 9 ∷ 9 ∷ 9 ∷ 9 ∷ 9 ∷ 9 ∷ 10 ∷ 0 ∷ []
 unfolding opened
 fault-by-fault = refl
 
