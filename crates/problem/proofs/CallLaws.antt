@@ -17,7 +17,7 @@ use Rattle.problem.specs.Calls.{routesOf, RouteOf, Applies}
 use Rattle.problem.proofs.RankingLaws.{ranking-in, ranking-out}
 use Rattle.problem.proofs.PairLaws.{best-mem, best-main}
 use Rattle.problem.proofs.ReplyLaws.{Passed, answered, Outcome, outcome, passed-refusal, sound-heads, ranked-step, route-range}
-use Rattle.problem.proofs.CheckLaws.{NoneBelow, Told, refusal-told, Later, passed-later, passed-below}
+use Rattle.problem.proofs.RefusalLaws.{NoneBelow, Told, refusal-told, Later, passed-later, passed-below}
 
 -- ---- the verdict
 

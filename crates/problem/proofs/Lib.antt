@@ -7,9 +7,10 @@ pub mod PairLaws
 pub mod SettleLaws
 pub mod WayLaws
 pub mod ReplyLaws
-pub mod CheckLaws
+pub mod RefusalLaws
 pub mod CallLaws
 pub mod SaidLaws
+pub mod PrintedLaws
 pub mod Promises
 pub mod CallPromises
 pub mod GrowthOrder

@@ -18,13 +18,14 @@ use Rattle.problem.specs.Table.{riskWidth, mostAllowance, replySize, Byt
 use Rattle.problem.specs.Routes.{Route, metresOf, routeOf, precedes}
 use Rattle.problem.specs.Pairs.{Pair, pair, sharedRisks, sharedCount, total, judged, NoWorse, Step, ofRank, rankedKey, floor, leastSettled, ranked}
 use Rattle.problem.specs.Reply.{Request, answer, after, verdictIn, sharedIn, floorIn, rankedIn, mainMetresIn, standbyMetresIn, totalIn, sharedRisksIn, mainIn, standbyIn}
-use Rattle.problem.specs.Printed.{kilometres}
+use Rattle.problem.specs.Printed.{kilometres, text, printed, requestOf, Unreadable, output}
 use Rattle.problem.specs.Calls.{routesOf, RouteOf, WayOf, pairMadeOf, pairSaid, allowing, Applies}
 use Rattle.problem.proofs.RankingLaws.{ranking-exact, ranking-strict}
 use Rattle.problem.proofs.PairLaws as PairLaws
 use Rattle.problem.proofs.ReplyLaws.{sound-heads}
 use Rattle.problem.proofs.CallLaws.{WithPair, low-number, high-number, number-range, refused-told, answered-none, numbered}
 use Rattle.problem.proofs.SaidLaws as Said
+use Rattle.problem.proofs.PrintedLaws as Printed
 
 module _ (table : List ℕ) (q : Request) (size : ℕ) where
   -- the number returned, and the bytes written
@@ -197,3 +198,12 @@ no-worse-exactly = PairLaws.no-worse-exactly
 pub kilometres-up : (metres k : ℕ) → (kilometres metres ≤ k) ↔ (metres ≤ 1000 * k)
 unfolding kilometres
 kilometres-up metres k = (λ h. omega arith, λ h. omega arith)
+
+-- ==== Of the program
+
+-- it refuses by 12 exactly where the input is under 16 bytes, or a byte of the request that should be zero is not; otherwise it prints what the entry answers
+pub twelve-exactly : (input : List ℕ) → (output input ≡ text "refused 12\n") ↔ Unreadable input
+twelve-exactly = Printed.twelve-exactly
+
+pub otherwise-answered : (input : List ℕ) → (Unreadable input → ⊥) → output input ≡ printed (answer (drop 16 input) (requestOf input) replySize)
+otherwise-answered = Printed.otherwise-answered

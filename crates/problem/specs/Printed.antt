@@ -1,9 +1,10 @@
 -- 01, The program `routes`: kilometres, and the bytes printed for what is read. Assumes nothing.
 use Prim.Native.Char.{code}
-use Prim.Native.Nat.{ℕ, zero, suc, _+_, _/_, _%_}
+use Prim.Native.Nat.{ℕ, zero, suc, _+_, _/_, _%_, _≤_, _<_}
 use Prim.Native.String.{String}
 use mathlib.Core.Bool.{Bool, true, false, _||_, not}
 use mathlib.Core.List.{List, [], _∷_, _++_}
+use mathlib.Core.Path.{_≡_}
 use lib.Dec.{eqb, ltb}
 use lib.ListN.{length, getD, drop}
 use Rattle.laws.specs.Choosing.{if_then_else_}
@@ -47,6 +48,12 @@ requestOf b = request (getD b 0 0) (getD b 1 0) (numberAt b 4 4) (numberAt b 8 4
 -- number 12: the input is under 16 bytes, or bytes 2 to 3 or 12 to 15 of the request are not zero
 unfoldable pub faulty : List ℕ → Bool
 faulty input = ltb (length input) 16 || not (eqb (numberAt input 2 2) 0) || not (eqb (numberAt input 12 4) 0)
+
+-- the same in 01's words: input under 16 bytes, or a byte of the request that should be zero and is not
+pub data Unreadable (input : List ℕ) : Type 0 where
+  too-short : length input < 16 → Unreadable input
+  not-zero-low : (k : ℕ) → 2 ≤ k → k ≤ 3 → (getD input k 0 ≡ 0 → ⊥) → Unreadable input
+  not-zero-high : (k : ℕ) → 12 ≤ k → k ≤ 15 → (getD input k 0 ≡ 0 → ⊥) → Unreadable input
 
 -- what the program prints for what it reads; number 12 is looked for first
 unfoldable pub output : List ℕ → List ℕ

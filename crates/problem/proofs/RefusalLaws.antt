@@ -1,4 +1,4 @@
--- The order of the checks: a refusal's own test holds, and that of no smaller number. The tests are asked one after the other, down the definition's own order. Assumes nothing.
+-- Refusals, in the order of the checks: a refusal's own test holds, and that of no smaller number. The tests are asked one after the other, down the definition's own order. Assumes nothing.
 use mathlib.Core.Path.{_≡_, refl, sym, _∙_, subst}
 use mathlib.Core.Logic.{_⊎_, inl, inr}
 use mathlib.Core.Bool.{Bool, true, false, _||_, not}
