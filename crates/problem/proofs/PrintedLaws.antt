@@ -51,7 +51,7 @@ third true b = refl
 third false true = refl
 third false false = refl
 
-pub faulty-exactly : (input : List ℕ) → (faulty input ≡ true) ↔ Unreadable input
+faulty-exactly : (input : List ℕ) → (faulty input ≡ true) ↔ Unreadable input
 unfolding faulty
 faulty-exactly input =
     (λ e. to (one-of (ltb (length input) 16) (not (eqb (numberAt input 2 2) 0)) (not (eqb (numberAt input 12 4) 0)) e), from)

@@ -33,7 +33,7 @@ no-worse-cast p q r s (NoWorse.fewer l) = NoWorse.fewer (omega arith)
 no-worse-cast p q r s (NoWorse.as-many e l) = NoWorse.as-many (p ∙ e ∙ sym r) (omega arith)
 
 -- what is no worse than something is no worse than what shares as many at least and is as long at least
-pub no-worse-still : {a b c d c′ d′ : ℕ} → NoWorse a b c d → c ≤ c′ → d ≤ d′ → NoWorse a b c′ d′
+no-worse-still : {a b c d c′ d′ : ℕ} → NoWorse a b c d → c ≤ c′ → d ≤ d′ → NoWorse a b c′ d′
 no-worse-still (NoWorse.fewer l) p q = NoWorse.fewer (omega arith)
 no-worse-still {a} {b} {c} {d} {c′} {d′} (NoWorse.as-many e l) p q = go (ltb c c′) refl
   where
@@ -90,7 +90,7 @@ module _ {table : List ℕ} {q : Request} {size : ℕ} (w : WithPair table q siz
   pub verdict-in : verdictIn reply ≡ answer table q size .number
   verdict-in = ap verdictIn reply-is ∙ reply-verdict _ _ _ (chosen table q) ∙ ap (λ (a : Answer). a .number) (sym (w .is))
 
-  pub shared-in : sharedIn reply ≡ sharedCount (chosen table q)
+  shared-in : sharedIn reply ≡ sharedCount (chosen table q)
   shared-in = ap sharedIn reply-is ∙ reply-shared _ _ _ (chosen table q)
 
   pub floor-in : floorIn reply ≡ floor routes
@@ -106,7 +106,7 @@ module _ {table : List ℕ} {q : Request} {size : ℕ} (w : WithPair table q siz
   standby-metres-in : standbyMetresIn reply ≡ chosen table q .standby .metres
   standby-metres-in = ap standbyMetresIn reply-is ∙ reply-standby-metres _ _ _ (chosen table q) (omega (arith, route-range (w .passed) standby-listed))
 
-  pub total-in : totalIn reply ≡ total (chosen table q)
+  total-in : totalIn reply ≡ total (chosen table q)
   unfolding total
   total-in = ap₂ (λ (m s : ℕ). m + s) main-metres-in standby-metres-in
 
