@@ -1,7 +1,7 @@
 -- Pairs: who is among them, the judgement, the best pair of a step, the floor. Assumes nothing.
 use mathlib.Core.Path.{_≡_, refl, sym, ap, ap₂, _∙_}
 use mathlib.Core.Logic.{_⊎_, inl, inr, _↔_}
-use mathlib.Core.Bool.{Bool, true, false, _&&_, _||_, not}
+use mathlib.Core.Bool.{Bool, true, false, _&&_, _||_, not, and-false}
 use mathlib.Core.List.{List, [], _∷_, map, List·Memᴰ, List·Memᴰ·head, List·Memᴰ·tail, List·Memᴰ·not-nil, List·Memᴰ·append-cases, Memᴰ·append-left, Memᴰ·append-right, Memᴰ·cast, Memᴰ·map, Memᴰ·of-map, head-eq-of-cons-eq, tail-eq-of-cons-eq}
 use Prim.Native.Nat.{ℕ, zero, suc, _-_, _/_, _^_, _≤_, _<_}
 use native.Mathlib.Nat.{add-comm, pow-suc}
@@ -95,11 +95,7 @@ judged-by-rank routes strict {m} {s} {m′} {s′} a b c d = lex-flat _ _ _ _ _ 
 -- of two lists of one number
 single : (d b : ℕ) → b ≤ d → lexBy ltb (d ∷ []) (b ∷ []) ≡ false
 unfolding lexBy
-single d b l = rw (le-ltb d b l) (none (not (ltb b d)))
-  where
-    none : (x : Bool) → (x && false) ≡ false
-    none true = refl
-    none false = refl
+single d b l = rw (le-ltb d b l) (and-false (not (ltb b d)))
 
 -- no worse exactly where the other is not before it by shared count and then total
 pub no-worse-exactly : (a b c d : ℕ) → NoWorse a b c d ↔ (lexBy ltb (c ∷ d ∷ []) (a ∷ b ∷ []) ≡ false)

@@ -1,6 +1,6 @@
 -- Number 12: where it is printed, and that no answer of the entry is printed so. Assumes nothing.
 use mathlib.Core.Path.{_≡_, refl, sym, ap, _∙_, subst}
-use mathlib.Core.Bool.{Bool, true, false, _||_, not}
+use mathlib.Core.Bool.{Bool, true, false, _||_, not, or-true}
 use mathlib.Core.Logic.{_⊎_, inl, inr, _↔_}
 use mathlib.Core.List.{List, [], _∷_, _++_}
 use Prim.Native.Nat.{ℕ, zero, suc, _+_, _≤_, _<_}
@@ -8,6 +8,7 @@ use native.Mathlib.Omega.{arith}
 use lib.Dec.{eqb, ltb}
 use lib.ListN.{length, getD, drop}
 use borrow.Author.Tests.{ltb-true, ltb-false, lt-ltb, eqb-true, eqb-false, ne-eqb, not-true}
+use Rattle.laws.proofs.BoolLaws.{or-cases}
 use Rattle.problem.specs.Table.{replySize, numberAt}
 use Rattle.problem.specs.Opened.{opened}
 use Rattle.problem.specs.Reply.{Answer, refuse, answer, verdictIn}
@@ -37,38 +38,24 @@ byte-nonzero bytes at (suc n) k l b h e = go (eqb at k) refl (byte-nonzero bytes
     go true q ih = h (ap (λ (j : ℕ). getD bytes j 0) (sym (eqb-true at k q)) ∙ omega arith)
     go false q ih = ih (omega (arith, eqb-false at k q)) (omega arith) h (omega arith)
 
-one-of : (a b c : Bool) → (a || b || c) ≡ true → (a ≡ true) ⊎ (b ≡ true) ⊎ (c ≡ true)
-one-of true b c e = inl refl
-one-of false true c e = inr (inl refl)
-one-of false false c e = inr (inr e)
-
-second : (a c : Bool) → (a || true || c) ≡ true
-second true c = refl
-second false c = refl
-
-third : (a b : Bool) → (a || b || true) ≡ true
-third true b = refl
-third false true = refl
-third false false = refl
-
 faulty-exactly : (input : List ℕ) → (faulty input ≡ true) ↔ Unreadable input
 unfolding faulty
-faulty-exactly input =
-    (λ e. to (one-of (ltb (length input) 16) (not (eqb (numberAt input 2 2) 0)) (not (eqb (numberAt input 12 4) 0)) e), from)
+faulty-exactly input = (λ e. to (or-cases (ltb (length input) 16 || not (eqb (numberAt input 2 2) 0)) (not (eqb (numberAt input 12 4) 0)) e), from)
   where
-    to : (ltb (length input) 16 ≡ true) ⊎ (not (eqb (numberAt input 2 2) 0) ≡ true) ⊎ (not (eqb (numberAt input 12 4) 0) ≡ true) → Unreadable input
-    to (inl e) = Unreadable.too-short (ltb-true (length input) 16 e)
-    to (inr (inl e)) =
+    low : (ltb (length input) 16 ≡ true) ⊎ (not (eqb (numberAt input 2 2) 0) ≡ true) → Unreadable input
+    low (inl e) = Unreadable.too-short (ltb-true (length input) 16 e)
+    low (inr e) =
         let o = nonzero-byte input 2 2 (eqb-false (numberAt input 2 2) 0 (not-true _ e)) in Unreadable.not-zero-low (o .0) (o .1) (omega (arith, o .2)) (o .3)
-    to (inr (inr e)) =
+
+    to : ((ltb (length input) 16 || not (eqb (numberAt input 2 2) 0)) ≡ true) ⊎ (not (eqb (numberAt input 12 4) 0) ≡ true) → Unreadable input
+    to (inl e) = low (or-cases (ltb (length input) 16) (not (eqb (numberAt input 2 2) 0)) e)
+    to (inr e) =
         let o = nonzero-byte input 12 4 (eqb-false (numberAt input 12 4) 0 (not-true _ e)) in Unreadable.not-zero-high (o .0) (o .1) (omega (arith, o .2)) (o .3)
 
     from : Unreadable input → faulty input ≡ true
     from (Unreadable.too-short h) = rw (lt-ltb (length input) 16 h)
-    from (Unreadable.not-zero-low k l b h) =
-        rw (ne-eqb (numberAt input 2 2) 0 (byte-nonzero input 2 2 k l (omega arith) h)) (second (ltb (length input) 16) (not (eqb (numberAt input 12 4) 0)))
-    from (Unreadable.not-zero-high k l b h) =
-        rw (ne-eqb (numberAt input 12 4) 0 (byte-nonzero input 12 4 k l (omega arith) h)) (third (ltb (length input) 16) (not (eqb (numberAt input 2 2) 0)))
+    from (Unreadable.not-zero-low k l b h) = rw (ne-eqb (numberAt input 2 2) 0 (byte-nonzero input 2 2 k l (omega arith) h), or-true (ltb (length input) 16))
+    from (Unreadable.not-zero-high k l b h) = rw (ne-eqb (numberAt input 12 4) 0 (byte-nonzero input 12 4 k l (omega arith) h)) (or-true (ltb (length input) 16 || not (eqb (numberAt input 2 2) 0)))
 
 -- ---- the text
 

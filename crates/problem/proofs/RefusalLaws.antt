@@ -1,6 +1,6 @@
 -- Refusals, in the order of the checks: a refusal's own test holds, and that of no smaller number. The tests are asked one after the other, down the definition's own order. Assumes nothing.
 use mathlib.Core.Path.{_≡_, refl, sym, _∙_, subst}
-use mathlib.Core.Logic.{_⊎_, inl, inr}
+use mathlib.Core.Logic.{inl, inr}
 use mathlib.Core.Bool.{Bool, true, false, _||_, not}
 use mathlib.Core.List.{List}
 use Prim.Native.Nat.{ℕ, suc, _%_, _≤_, _<_}
@@ -9,15 +9,12 @@ use lib.Dec.{eqb, ltb}
 use lib.ListN.{length}
 use borrow.Author.Tests.{ltb-true, ltb-false, eqb-true, eqb-false, not-true, not-false}
 use Rattle.laws.specs.Choosing.{if_then_else_}
+use Rattle.laws.proofs.BoolLaws.{or-cases, neither}
 use Rattle.problem.specs.Table.{lastNode, mostReach, mostAllowance, mostTableBytes, replySize, arcsOf, arcsNumber}
 use Rattle.problem.specs.Reply.{Request, refusal}
 use Rattle.problem.specs.Calls.{RouteOf, chosen, Applies}
 use Rattle.problem.proofs.TableLaws.{number-unsound, number-nine, sound-at}
-use Rattle.problem.proofs.ReplyLaws.{Passed, neither}
-
-or-true : (a b : Bool) → (a || b) ≡ true → (a ≡ true) ⊎ (b ≡ true)
-or-true true b e = inl refl
-or-true false b e = inr e
+use Rattle.problem.proofs.ReplyLaws.{Passed}
 
 module _ (table : List ℕ) (q : Request) (size : ℕ) where
   -- no test of a smaller number holds
@@ -86,7 +83,7 @@ module _ (table : List ℕ) (q : Request) (size : ℕ) where
       small t (Applies.buffer-too-small h) = omega (arith, ltb-false size replySize t)
 
       high : (ltb lastNode (q .source) || ltb lastNode (q .terminal)) ≡ true → Applies table q size 5
-      high t = elim (or-true (ltb lastNode (q .source)) (ltb lastNode (q .terminal)) t) [ inl a ↦ Applies.source-too-high (ltb-true _ _ a) | inr a ↦ Applies.terminal-too-high (ltb-true _ _ a) ]
+      high t = elim (or-cases (ltb lastNode (q .source)) (ltb lastNode (q .terminal)) t) [ inl a ↦ Applies.source-too-high (ltb-true _ _ a) | inr a ↦ Applies.terminal-too-high (ltb-true _ _ a) ]
 
       no-high : (ltb lastNode (q .source) || ltb lastNode (q .terminal)) ≡ false → Applies table q size 5 → ⊥
       no-high t (Applies.source-too-high h) = omega (arith, ltb-false lastNode (q .source) (neither (ltb lastNode (q .source)) (ltb lastNode (q .terminal)) t .0))
@@ -99,7 +96,7 @@ module _ (table : List ℕ) (q : Request) (size : ℕ) where
       far t (Applies.reach-too-far h) = omega (arith, ltb-false mostReach (q .reach) t)
 
       allowed : (eqb (q .allowance) 0 || ltb mostAllowance (q .allowance)) ≡ true → Applies table q size 8
-      allowed t = elim (or-true (eqb (q .allowance) 0) (ltb mostAllowance (q .allowance)) t) [ inl a ↦ Applies.allowance-none (eqb-true _ _ a) | inr a ↦ Applies.allowance-too-large (ltb-true _ _ a) ]
+      allowed t = elim (or-cases (eqb (q .allowance) 0) (ltb mostAllowance (q .allowance)) t) [ inl a ↦ Applies.allowance-none (eqb-true _ _ a) | inr a ↦ Applies.allowance-too-large (ltb-true _ _ a) ]
 
       not-allowed : (eqb (q .allowance) 0 || ltb mostAllowance (q .allowance)) ≡ false → Applies table q size 8 → ⊥
       not-allowed t (Applies.allowance-none h) = eqb-false _ _ (neither (eqb (q .allowance) 0) (ltb mostAllowance (q .allowance)) t .0) h

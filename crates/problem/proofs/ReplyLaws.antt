@@ -1,6 +1,6 @@
 -- Calls: the checks as facts, the three ways a call can end, and the fields of a reply read back from its bytes. Assumes nothing.
 use mathlib.Core.Path.{_≡_, refl, sym, ap, _∙_}
-use mathlib.Core.Bool.{Bool, true, false, _||_, not, true≢false}
+use mathlib.Core.Bool.{Bool, true, false, _||_, not}
 use mathlib.Core.List.{List, [], _∷_, List·Memᴰ}
 use Prim.Native.Nat.{ℕ, zero, suc, _-_, _/_, _%_, _^_, _≤_, _<_}
 use native.Mathlib.Omega.{arith}
@@ -9,6 +9,7 @@ use lib.ListN.{length, take, replicate, length-append, length-replicate}
 use lib.Seq.{take-append-seam, take-append-le, drop-at}
 use borrow.Author.Tests.{ltb-false, le-ltb, eqb-true, eqb-false, eq-eqb, ne-eqb, not-false}
 use Rattle.laws.specs.Choosing.{if_then_else_}
+use Rattle.laws.proofs.BoolLaws.{neither}
 use Rattle.problem.specs.declared.Arc.{Arc}
 use Rattle.problem.specs.Table.{lastNode, mostArcs, mostReach, mostAllowance, mostTableBytes, replySize, bytesOf, arcsOf, arcsNumber, allSound}
 use Rattle.problem.specs.Routes.{Route, routeOf}
@@ -39,10 +40,6 @@ pub record Passed (table : List ℕ) (q : Request) (size : ℕ) : Type 0 where
 not-first : (b : Bool) (n r : ℕ) → (if b then suc n else r) ≡ 0 → (b ≡ false) × (r ≡ 0)
 not-first true n r e = absurd (omega arith)
 not-first false n r e = (refl, e)
-
-pub neither : (a b : Bool) → (a || b) ≡ false → (a ≡ false) × (b ≡ false)
-neither true b e = absurd (true≢false e)
-neither false b e = (refl, e)
 
 pub refusal-passed : (table : List ℕ) (q : Request) (size : ℕ) → refusal table q size ≡ 0 → Passed table q size
 unfolding refusal

@@ -170,6 +170,11 @@ round-twice =
       within-reach = omega arith;
     }
 
+-- no way goes over an arc past the table's end
+pub none-past : Way (arcsOf meshC) 0 1 (2 ∷ 0 ∷ []) → ⊥
+unfolding opened
+none-past (Way.over b t w) = omega arith
+
 -- every byte is one
 pub bytes-to-255 : Bytes (0 ∷ 255 ∷ [])
 bytes-to-255 zero = omega arith
