@@ -5,6 +5,8 @@
 //!     desk text          the text form of such bytes on standard input
 //!     desk sheet FILE    a sheet in words, for the mesh in FILE and what `routes` printed for it on standard input
 //!
+//! What each of these looks like is said in docs/FORMATS.md.
+//!
 //! Exit status 0, or 1 with one line on standard error and nothing on standard output: the line of the input that could not be
 //! read, and what was expected there. Exit status 2 where the command itself is not one of the three.
 

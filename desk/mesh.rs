@@ -1,12 +1,4 @@
-//! A mesh in its text form: a request line, then one arc a line as document 01 prints them.
-//!
-//!     # anything behind a hash is a comment
-//!     from 0 to 3 reach 10000 allowance 1000
-//!     0: 0,1,1000,{0}
-//!     1: 1,3,4000,{1,5}
-//!
-//! An arc line is NUMBER: TAIL,HEAD,METRES,{RISK,..}; the numbers count up from 0. Spaces are free, and so are blank lines.
-//! Spare bytes that are not zero, which the planner refuses, are written ` spare N` behind an arc and ` spare N,N` behind the request.
+//! A mesh in its text form: a request line, then one arc a line as document 01 prints them (docs/FORMATS.md, "A mesh as text").
 
 use crate::line::{at_line, Line};
 use std::fmt::Write;

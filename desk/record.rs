@@ -1,5 +1,4 @@
-//! A mesh as the bytes that `routes` reads (01, "The span table" and "The program `routes`"): a request record of 16 bytes,
-//! then one of 16 for each arc, numbers little-endian.
+//! A mesh as the bytes that `routes` reads: a request record, then one for each arc (docs/FORMATS.md, "Records").
 
 use crate::mesh::{Arc, Mesh, Request};
 

@@ -135,7 +135,7 @@ fn counted(n: u32, thing: &str) -> String {
     format!("{} {}{}", n, thing, if n == 1 { "" } else { "s" })
 }
 
-/// The numbers of 01's table that `routes` can print, in words.
+/// The numbers that `routes` can print (docs/FORMATS.md, "Numbers, and the order of checks"), in words.
 fn read_refusal(line: &mut Line) -> Result<String, String> {
     let number = line.number("a refusal's number", u32::MAX)?;
     line.end()?;

@@ -1,12 +1,12 @@
 /* Feshangul: two fibre routes, a main and a standby, that share as few risks as possible at the least total length.
  *
- * This header is all that a C or C++ host needs. Fill a span table, call feshangul_plan, look at the number it
+ * This header is all that a C or C++ host includes. Fill a span table, call feshangul_plan, look at the number it
  * returns, and where that is 0 or 1 read the reply with the functions at the end. host/example.c does just that.
  *
  * A route is a list of arcs, each beginning where the one before ends, that meets no node twice. Routes are ranked
  * by length, equal lengths by the first arc number that differs. The main and the standby may be the same route.
  *
- * Numbers of more than one byte are little-endian, in the table and in the reply, whatever the host's own order.
+ * docs/FORMATS.md has the records of table and reply byte by byte, and when each number is returned.
  */
 #ifndef FESHANGUL_H
 #define FESHANGUL_H
@@ -33,16 +33,8 @@ extern "C" {
 
 /* ---- The span table ---------------------------------------------------------------------------------------
  *
- * Records of 16 bytes, one for each arc (one direction of one span), with nothing before or between them. An arc's
- * number is its place, from 0. Parallel arcs are allowed.
- *
- *   bytes   field
- *   0       tail node, 0 to 31
- *   1       head node, 0 to 31, not the tail
- *   2-3     zero
- *   4-7     length in metres, 0 to 2,000,000
- *   8-15    risks: bit r is set when risk r touches the arc, r from 0 to 63; 0 for no risk
- */
+ * One record for each arc. Where a field begins, from the record's first byte; the bytes between are to be zero.
+ * docs/FORMATS.md says what each holds. */
 #define FESHANGUL_ARC_TAIL 0u
 #define FESHANGUL_ARC_HEAD 1u
 #define FESHANGUL_ARC_METRES 4u
@@ -66,8 +58,8 @@ uint32_t feshangul_plan(const uint8_t *table, size_t table_len, uint8_t *reply, 
 /* ---- Numbers returned, and what to do on each --------------------------------------------------------------
  *
  * With 0 and 1 a reply is written. All others are refusals: nothing was planned and the reply buffer is as it was.
- * Of several faults the one with the smallest number is told, so mend it and ask again. Take a number that is not
- * listed here as a refusal. */
+ * Of several faults the first check in the order of docs/FORMATS.md that applies is told (numbers 2 to 11 in order
+ * today), so mend it and ask again. Take a number that is not listed here as a refusal. */
 
 /* Settled. Use the pair: it is the first of all pairs of routes, and a larger allowance gives the same reply. */
 #define FESHANGUL_SETTLED 0u
@@ -76,57 +68,44 @@ uint32_t feshangul_plan(const uint8_t *table, size_t table_len, uint8_t *reply, 
  * tried. Use it as it is, or ask again with a larger allowance: that never gives a worse pair. */
 #define FESHANGUL_STOPPED 1u
 
-/* The table is over 2,048 bytes. Leave out arcs that cannot matter, so that 128 remain. */
+/* The table is too long. Leave out arcs that cannot matter, so that FESHANGUL_ARCS_MAX remain. */
 #define FESHANGUL_TABLE_LONG 2u
 
-/* The table's length is not a multiple of 16. It was cut off or padded on its way: load it again. */
+/* The table is no whole number of arcs. It was cut off or padded on its way: load it again. */
 #define FESHANGUL_TABLE_TORN 3u
 
-/* The reply buffer is under 96 bytes. A fault of the host: lend FESHANGUL_REPLY_BYTES or more. */
+/* The reply buffer is too short. A fault of the host: lend FESHANGUL_REPLY_BYTES or more. */
 #define FESHANGUL_REPLY_SHORT 4u
 
-/* Source or terminal is over 31. Mend the request. */
+/* Source or terminal is no node. Mend the request. */
 #define FESHANGUL_END_RANGE 5u
 
 /* Source equals terminal. Ask for two different nodes. */
 #define FESHANGUL_ENDS_EQUAL 6u
 
-/* Reach is over 62,000,000. Give FESHANGUL_REACH_MAX where no limit is meant. */
+/* The reach is too far. Give FESHANGUL_REACH_MAX where no limit is meant. */
 #define FESHANGUL_REACH_RANGE 7u
 
-/* Allowance is 0 or over 1,000,000. Give FESHANGUL_ALLOWANCE_MAX where all mains are meant. */
+/* The allowance is none, or too large. Give FESHANGUL_ALLOWANCE_MAX where all mains are meant. */
 #define FESHANGUL_ALLOWANCE_RANGE 8u
 
-/* Some arc has a field outside its range: a node over 31, equal ends, spare bytes that are not zero, or more than
- * 2,000,000 metres. Hold every record against the table's fields above, and have the table mended. */
+/* Some arc has a field outside its range. Hold every record against the ranges in docs/FORMATS.md, and have the
+ * table mended. */
 #define FESHANGUL_ARC_FAULT 9u
 
 /* No route leads from source to terminal within the reach. Tell the customer, or ask with a larger reach. */
 #define FESHANGUL_NO_ROUTE 10u
 
-/* A route of the answer is longer than 62,000,000 metres. The reach shuts this out: report it as our fault. */
+/* A route of the answer is too long. The reach shuts this out: report it as our fault. */
 #define FESHANGUL_ROUTE_LONG 11u
 
-/* Only printed by the program `routes`, never returned by feshangul_plan: its input is under 16 bytes, or spare
- * bytes of its request are not zero. Mend whatever wrote the input. */
+/* Only printed by the program `routes`, never returned by feshangul_plan: its input does not begin with a request.
+ * Mend whatever wrote the input. */
 #define FESHANGUL_INPUT_FAULT 12u
 
-/* ---- The reply record, 96 bytes ----------------------------------------------------------------------------
+/* ---- The reply record -------------------------------------------------------------------------------------
  *
- *   bytes   field
- *   0       verdict: 0 settled, 1 stopped; the number returned
- *   1       shared count: how many risks lie on both routes
- *   2       floor: how many risks lie on every route; no pair shares fewer
- *   3, 4    arcs in main, in standby, 1 to 31
- *   5-7     zero
- *   8-11    ranked: how many mains the answer rests on
- *   12-15   metres of main
- *   16-19   metres of standby
- *   20-23   zero
- *   24-31   shared risks: bit r is set when risk r lies on both routes
- *   32-63   arc numbers of main, from source to terminal, one byte each, then 255 to the end
- *   64-95   arc numbers of standby, likewise
- */
+ * Where a field begins; docs/FORMATS.md says what each holds. The functions at the end read them. */
 #define FESHANGUL_REPLY_VERDICT 0u
 #define FESHANGUL_REPLY_SHARED 1u
 #define FESHANGUL_REPLY_FLOOR 2u

@@ -5,15 +5,15 @@ use mathlib.Core.Path.{_≡_, ap, _∙_}
 use native.Mathlib.Omega.{arith}
 use lib.ListN.{length, drop}
 use lib.Seq.{drop-cons}
+use borrow.Author.Tests.{ne-eqb}
 use Rattle.problem.specs.declared.Arc.{Arc}
-use Rattle.problem.specs.Routes.{arcAt, sprout}
-use Rattle.arcs.proofs.ArcLaws.{opens-elsewhere}
+use Rattle.problem.specs.Routes.{arcAt, opens, sprout}
 use Rattle.chain.specs.Chain.{Next}
 
 module _ (rest : ℕ → ℕ → List (List ℕ)) (met at : ℕ) where
   sprout-other : (k : ℕ) (a : Arc) (arcs : List Arc) → (a .tail ≡ at → ⊥) → sprout rest met at k (a ∷ arcs) ≡ sprout rest met at (suc k) arcs
-  unfolding sprout
-  sprout-other k a arcs other = rw (← opens-elsewhere met at a other, sprout)
+  unfolding sprout opens
+  sprout-other k a arcs other = rw (ne-eqb (a .tail) at other, sprout)
 
   module _ (arcs : List Arc) where
     -- the d arcs from k on have another tail

@@ -4,22 +4,18 @@ use mathlib.Core.List.{List}
 use mathlib.Core.Path.{_≡_}
 use lib.ListN.{length, getD}
 use Rattle.problem.specs.declared.Arc.{Arc}
-use Rattle.problem.specs.Table.{lastNode}
+use Rattle.problem.specs.Table.{lastNode, nodes, mostInTable}
 use Rattle.problem.specs.Routes.{arcAt}
-
--- a table has at most this many arcs
-abbrev pub mostInTable : ℕ
-mostInTable = 128
 
 -- a byte for each node, and one for each arc that a table can have
 abbrev pub chainSize : ℕ
-chainSize = 160
+chainSize = nodes + mostInTable
 
 abbrev pub firstIn : List ℕ → ℕ → ℕ
 firstIn chain v = getD chain v 0
 
 abbrev pub nextIn : List ℕ → ℕ → ℕ
-nextIn chain i = getD chain (32 + i) 0
+nextIn chain i = getD chain (nodes + i) 0
 
 -- what a table must be for its arcs to be chained
 pub record Chainable (arcs : List Arc) : Type 0 where

@@ -1,10 +1,15 @@
 // The arcs of one tail, chained, so that a search at a node passes over the arcs that leave other nodes.
-// Bytes 0 to 31 are the first arc of each node, bytes from 32 on the next arc of the same tail; the number of arcs ends a chain.
+// A byte for each node is its first arc, a byte behind them for each arc the next arc of the same tail; the number of arcs ends a chain.
+use problem::ARC_BYTES;
+use problem::MOST_IN_TABLE;
+use problem::NODES;
 ghost use mathlib.Core.Path.{_≡_};
 ghost use Prim.Native.Nat.{_≤_, _<_};
 ghost use lib.ListN.{length};
-ghost use Rattle.problem.specs.Table.{lastNode, arcsOf};
-ghost use Rattle.chain.specs.Chain.{chainSize, mostInTable, firstIn, nextIn, Chain, Chainable};
+ghost use Rattle.problem.specs.Table.{lastNode, mostInTable, arcsOf};
+ghost use Rattle.chain.specs.Chain.{chainSize, firstIn, nextIn, Chain, Chainable};
+
+pub const SIZE: usize = NODES + MOST_IN_TABLE;
 
 fn wide(x: u8) -> usize
     ensures { λ r. ⌜ r ≡ x ⌝ }
@@ -26,23 +31,23 @@ pub fn next(chain: &[u8], i: usize) -> usize
     requires { ⌜ (length (now chain) ≡ chainSize) × (i < mostInTable) ⌝ }
     ensures { λ r. ⌜ r ≡ nextIn (now (chain .entry)) i ⌝ }
 {
-    let at = 32 + i;
+    let at = NODES + i;
     wide(chain[at])
 }
 
 // The chain of a table, made from its last arc down: each arc comes before those of its tail.
-pub fn chained(table: &[u8]) -> [u8; 160]
+pub fn chained(table: &[u8]) -> [u8; SIZE]
     requires { ⌜ Chainable (arcsOf (now table)) ⌝ }
     ensures { λ r. ⌜ Chain (arcsOf (now (table .entry))) r ⌝ }
 {
-    let n = table.len() / 16;
-    let mut chain = [n as u8; 160];
+    let n = table.len() / ARC_BYTES;
+    let mut chain = [n as u8; SIZE];
     let mut i = n;
     while 0 < i {
         i = i - 1;
         let a = arcs::arc_at(table, i);
         let tail = a.tail as usize;
-        let behind = 32 + i;
+        let behind = NODES + i;
         chain[behind] = chain[tail];
         chain[tail] = i as u8;
     }

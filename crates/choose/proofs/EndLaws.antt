@@ -1,241 +1,187 @@
--- What a run's end says of the reply: its verdict and what is ranked. Assumes nothing.
-use mathlib.Core.Path.{_≡_, refl, sym, ap, ap₂, _∙_, subst}
-use mathlib.Core.Bool.{Bool, true, false, true≢false}
+-- What a run's end says of the reply: its verdict and what is ranked; and counting below a length. Assumes nothing.
+use mathlib.Core.Path.{_≡_, refl, sym, ap, _∙_, subst}
+use mathlib.Core.Bool.{Bool, true, false}
 use mathlib.Core.List.{List}
-use Prim.Native.Nat.{ℕ, _+_, _*_, _-_, _/_, _%_, _^_, _≤_, _<_}
+use Prim.Native.Nat.{ℕ, suc, _+_, _-_, _/_, _≤_, _<_, max}
 use native.Mathlib.Omega.{arith}
-use lib.Dec.{eqb, ltb}
+use lib.Dec.{eqb, ltb, leb}
 use lib.ListN.{length, getD}
-use borrow.Author.Tests.{ltb-true, ltb-false, eqb-true, eqb-false}
-use Rattle.laws.specs.Choosing.{keep}
-use Rattle.laws.proofs.ListLaws.{getD-mem}
+use borrow.Author.Tests.{lt-ltb, le-ltb, leb-true, leb-false, eqb-true, eqb-false}
+use Rattle.laws.proofs.FoldLaws.{keep-same}
+use Rattle.laws.proofs.ListLaws.{keep-none, getD-mem}
 use Rattle.problem.specs.Table.{mostAllowance}
-use Rattle.problem.specs.Routes.{Route, routeOf}
-use Rattle.problem.specs.Pairs.{Pair, pair, noRoute, Step, sharedCount, total, best, settledByLength, leastSettled, ranked, verdict}
-use Rattle.problem.proofs.SettleLaws.{ByLength, by-length, settled-by, least-settled}
+use Rattle.problem.specs.Routes.{Mesh, Route, within, ranking, count, shorter}
+use Rattle.problem.specs.Pairs.{Pair, noRoute, Step, total, every, best, settledByLength, leastSettled, ranked, verdict}
+use Rattle.problem.proofs.RankingLaws.{ranking-strict}
+use Rattle.problem.proofs.CandidateLaws.{every-even, every-some}
 use Rattle.problem.proofs.CallLaws.{verdict-settled, verdict-stopped}
-use Rattle.problem.proofs.WindowLaws.{count, shorter, half, main-half, not-yet, last-only, counted, counted-shorter, counted-half, counted-best}
-use Rattle.keys.specs.Keys.{standbyKey}
-use Rattle.keys.proofs.ChoiceLaws.{pairKey-metres}
-use Rattle.net.specs.Net.{arcsIn, Net}
-use Rattle.plan.specs.declared.Run.{Run}
-use Rattle.plan.specs.Plan.{routesIn, Ended}
-use Rattle.plan.proofs.PlanLaws.{key-shared, key-total}
-use Rattle.track.specs.Track.{routeIn}
-use Rattle.trace.specs.declared.Want.{Want}
-use Rattle.trace.specs.declared.Found.{Found}
-use Rattle.trace.specs.Trace.{First, allIn, wantedIn, countOf, soughtIn, InRange, Outcome}
-use Rattle.choose.specs.declared.Numbers.{Numbers}
-use Rattle.choose.specs.Choose.{Readable, ReadOff, stepBy, Halved}
-use Rattle.choose.proofs.RouteChoice.{strict, x-range, y-range, n-range, best-key, within-reach, asLong, place, main-place, main-early, best-is-pair, main-somewhere, standby-somewhere, asMain, asStandby}
+use Rattle.problem.proofs.SettleLaws.{by-length, settled-by}
+use Rattle.problem.proofs.WindowLaws.{half, main-half, J-le, not-yet, last-only, counted, counted-shorter, counted-best}
+use Rattle.net.specs.Net.{meshIn, routesIn, Net}
+use Rattle.tally.specs.declared.Tally.{Tally}
+use Rattle.track.specs.Track.{routeIn, Fit}
+use Rattle.sweep.specs.declared.Window.{Window}
+use Rattle.sweep.specs.Sweep.{sweptTally}
+use Rattle.sweep.proofs.SweptLaws.{swept-count, swept-over}
+use Rattle.plan.specs.declared.Run.the-variants.{ByLength, AllRanked, AtAllowance}
+use Rattle.plan.specs.Plan.{AtStep, Ended}
+use Rattle.choose.specs.declared.Pairing.{Pairing}
+use Rattle.choose.specs.Choose.{Chosen, OfStep, BestOf, AsRanked, stepBy, Halved}
+use Rattle.choose.proofs.RouteChoice.{within-reach}
 
-module _ (net : List ℕ) (words : Net net) (allowance : ℕ) (few : allowance ≤ mostAllowance) (run : Run) (e : Ended net allowance run) where
+-- ---- a run's end
+
+module _ (net : List ℕ) (words : Net net) (allowance : ℕ) (few : allowance ≤ mostAllowance) where
   abbrev routes : List Route
   routes = routesIn net
 
-  abbrev j : ℕ
-  j = e .step
+  module _ {t : Tally} {j : ℕ} (e : AtStep net allowance j t) where
+    the-step : Step (routesIn net) j
+    the-step = record { from-one = e .some; to-N = e .tally-is .to-N }
 
-  abbrev b : Pair
-  b = best (routesIn net) (e .step)
+    pub of-step : OfStep (routesIn net) (t .best) j
+    of-step = record { some = e .some; to-N = e .tally-is .to-N; few = omega (arith, e .allowed); is = e .tally-is .best-is (e .some) }
 
-  the-step : Step (routesIn net) (e .step)
-  the-step = record { from-one = e .some; to-N = e .tally-is .to-N }
+    as-step : ranked every (routesIn net) allowance ≡ j → {word : ℕ} → verdict every (routesIn net) allowance ≡ word → AsRanked (routesIn net) allowance t word
+    as-step r v =
+        record {
+          of-step = subst (OfStep (routesIn net) (t .best)) (sym (e .tally-is .ranked-is)) of-step;
+          ranked-is = e .tally-is .ranked-is ∙ sym r;
+          verdict-is = sym v;
+        }
 
-  some-route : 0 < length (routesIn net)
-  some-route = omega (arith, e .some, e .tally-is .to-N)
-
-  pub readable : Readable (run .tally .best)
-  readable =
-      record {
-        shared = sharedCount b;
-        main = b .main .metres;
-        standby = b .standby .metres;
-        shared-range = n-range net words (e .tally-is) (e .some);
-        main-range = x-range net words (e .tally-is) (e .some);
-        standby-range = y-range net words (e .tally-is) (e .some);
-        is = best-key net words (e .tally-is) (e .some);
-      }
-
-  -- ---- all ranked, or stopped
-
-  pub all-settled : run .end ≡ 1 → (verdict (routesIn net) allowance ≡ 0) × (ranked (routesIn net) allowance ≡ e .step)
+  pub all-settled : {t : Tally} → Ended net allowance (AllRanked t) → AsRanked (routesIn net) allowance t 0
   unfolding ranked
-  all-settled end =
-      let a = e .all-ranked end in
-      let last = last-only (routesIn net) (strict net words) some-route (subst (λ (i : ℕ). settledByLength (routesIn net) i ≡ false) (a .0) (a .1)) in
-      (verdict-settled (routesIn net) allowance (omega (arith, e .allowed, a .0)), omega (arith, e .allowed, a .0))
+  all-settled (Ended.all-ranked j e end unmet) =
+      let last = last-only every (routesIn net) (ranking-strict (meshIn net)) (omega (arith, e .some)) (subst (λ (i : ℕ). settledByLength every (routesIn net) i ≡ false) end unmet) in
+      as-step e (omega (arith, e .allowed, last)) (verdict-settled (routesIn net) allowance (omega (arith, e .allowed, last)))
 
-  pub end-stopped : run .end ≡ 2 → (verdict (routesIn net) allowance ≡ 1) × (ranked (routesIn net) allowance ≡ e .step)
+  pub end-stopped : {t : Tally} → Ended net allowance (AtAllowance t) → AsRanked (routesIn net) allowance t 1
   unfolding ranked
-  end-stopped end =
-      let a = e .at-allowance end in
-      let later = not-yet (routesIn net) (strict net words) the-step (a .2) (a .1) in
-      (verdict-stopped (routesIn net) allowance (omega (arith, a .0)), omega (arith, a .0))
+  end-stopped (Ended.at-allowance j e end more unmet) =
+      let later = not-yet every (routesIn net) (ranking-strict (meshIn net)) (the-step e) unmet more in
+      as-step e (omega (arith, later)) (verdict-stopped (routesIn net) allowance (omega (arith, later)))
 
   -- ---- settled by length
 
-  module _ (end : run .end ≡ 0) where
-    length-rule : ByLength (routesIn net) (e .step)
-    length-rule = by-length (routesIn net) (e .by-length end)
+  pub record AtLength (t : Tally) : Type 0 where
+    pub step : ℕ
+    pub at-step : AtStep net allowance step t
+    pub met : settledByLength every (routesIn net) step ≡ true
 
-    settled-within : leastSettled (routesIn net) ≤ e .step
-    settled-within = go (ltb (e .step) (leastSettled (routesIn net))) refl
+  pub at-length : {t : Tally} → Ended net allowance (ByLength t) → AtLength t
+  at-length (Ended.by-length j e met) = record { step = j; at-step = e; met = met }
+
+  -- with the pair p found
+
+  module _ {t : Tally} {j : ℕ} (e : AtStep net allowance j t) (met : settledByLength every (routesIn net) j ≡ true) (p : Pairing) (b : BestOf (routesIn net) j p) where
+    abbrev J : ℕ
+    J = leastSettled every (routesIn net)
+
+    abbrev main : ℕ
+    main = p .main .metres
+
+    abbrev whole : ℕ
+    whole = p .main .metres + p .standby .metres
+
+    settled-within : J ≤ j
+    settled-within = J-le every (routesIn net) (ranking-strict (meshIn net)) (the-step e) (settled-by every (routesIn net) j (by-length every (routesIn net) met))
+
+    main-is : best every (routesIn net) j .main .metres ≡ main
+    unfolding routeIn
+    main-is = ap (λ (q : Pair). q .main .metres) (sym (b .pair-is))
+
+    total-is : total (best every (routesIn net) j) ≡ whole
+    unfolding routeIn total
+    total-is = ap total (sym (b .pair-is))
+
+    here : getD (routesIn net) (count (shorter main) (routesIn net) + p .passed) noRoute ≡ best every (routesIn net) j .main
+    here = b .place-is ∙ ap (λ (q : Pair). q .main) (b .pair-is)
+
+    half-is : half (best every (routesIn net) j) ≡ (whole + 1) / 2
+    half-is = ap (λ (z : ℕ). (z + 1) / 2) total-is
+
+    half-count : count (shorter (half (best every (routesIn net) j))) (routesIn net) ≡ count (shorter ((whole + 1) / 2)) (routesIn net)
+    half-count = ap (λ (z : ℕ). count (shorter z) (routesIn net)) half-is
+
+    counted-here : J ≡ suc (max (count (shorter main) (routesIn net) + p .passed) (count (shorter ((whole + 1) / 2)) (routesIn net)))
+    counted-here =
+        counted every (routesIn net) (ranking-strict (meshIn net)) every-even (the-step e) (by-length every (routesIn net) met) (count (shorter main) (routesIn net) + p .passed) (b .early) here
+        ∙ ap (λ (z : ℕ). suc (max (count (shorter main) (routesIn net) + p .passed) z)) half-count
+
+    last-near : getD (routesIn net) (j - 1) noRoute .metres ≤ meshIn net .reach
+    last-near = within-reach (meshIn net) (words .reach-range) (getD-mem noRoute (routesIn net) (j - 1) (omega (arith, e .some, e .tally-is .to-N)))
+
+    pub halved : Halved net allowance main whole (p .passed)
+    halved =
+        record {
+          in-reach = omega (arith, by-length every (routesIn net) met .long-enough, total-is, last-near);
+          few = omega (arith, counted-here, settled-within, e .allowed);
+          allowance-range = few;
+          passed-range = omega (arith, b .early, e .allowed);
+        }
+
+    step-is : stepBy (routesIn net) main whole (p .passed) ≡ J
+    unfolding stepBy
+    step-is = go (eqb main ((whole + 1) / 2)) refl
       where
-        go : (c : Bool) → ltb (e .step) (leastSettled (routesIn net)) ≡ c → leastSettled (routesIn net) ≤ e .step
-        go true h = absurd (true≢false (sym (settled-by (routesIn net) (e .step) length-rule) ∙ least-settled (routesIn net) some-route .none-before (e .step) (e .some) (ltb-true _ _ h)))
-        go false h = ltb-false _ _ h
+        go : (c : Bool) → eqb main ((whole + 1) / 2) ≡ c → stepBy (routesIn net) main whole (p .passed) ≡ J
+        go true h =
+            let c = ap (λ (z : ℕ). count (shorter z) (routesIn net)) (eqb-true main ((whole + 1) / 2) h) in
+            rw (h, stepBy) (omega (arith, c, counted-here))
+        go false h =
+            let no : main ≡ (whole + 1) / 2 → ⊥ = eqb-false _ _ h in
+            let less : best every (routesIn net) j .main .metres < half (best every (routesIn net) j) = omega (arith, no, main-is, half-is, main-half every (routesIn net) (ranking-strict (meshIn net)) every-even j (every-some (routesIn net) (the-step e))) in
+            rw (h, stepBy) (omega (arith, half-count, counted-shorter every (routesIn net) (ranking-strict (meshIn net)) every-even (the-step e) (by-length every (routesIn net) met) less))
 
-    pub length-settled : (verdict (routesIn net) allowance ≡ 0) × (ranked (routesIn net) allowance ≡ leastSettled (routesIn net)) × (best (routesIn net) (leastSettled (routesIn net)) ≡ b)
+    step-counted : stepBy (routesIn net) main whole (p .passed) ≡ ranked every (routesIn net) allowance
     unfolding ranked
-    length-settled = (verdict-settled (routesIn net) allowance (omega (arith, settled-within, e .allowed)), omega (arith, settled-within, e .allowed), counted-best (routesIn net) (strict net words) the-step length-rule)
+    step-counted = omega (arith, step-is, settled-within, e .allowed)
 
-    -- the step counted
-    module _ (f : First (arcsIn net) (b .main .metres) (wantedIn net (asMain net words (e .tally-is) (e .some))) (allIn net)) (main-is : b .main ≡ routeOf (arcsIn net) (f .ks)) where
-      abbrev at : ℕ
-      at = place net words (e .tally-is) (e .some) f
+    -- the step replied has the same best pair
+    settled-best : best every (routesIn net) j ≡ best every (routesIn net) (ranked every (routesIn net) allowance)
+    unfolding ranked
+    settled-best =
+        sym (counted-best every (routesIn net) (ranking-strict (meshIn net)) every-even (the-step e) (by-length every (routesIn net) met))
+        ∙ ap (best every (routesIn net)) (omega (arith, settled-within, e .allowed))
 
-      early : at < e .step
-      early = main-early net words (e .tally-is) (e .some) f
+    pub step-small : {step : ℕ} → step ≡ stepBy (routesIn net) main whole (p .passed) → step ≤ mostAllowance
+    step-small n = omega (arith, n, step-is, settled-within, e .allowed)
 
-      here : getD (routesIn net) at noRoute ≡ b .main
-      here = main-place net words (e .tally-is) (e .some) f ∙ sym main-is
+    pub chosen-settled : {step : ℕ} → step ≡ stepBy (routesIn net) main whole (p .passed) → Fit (p .main) → Fit (p .standby)
+        → Chosen (routesIn net) allowance (record { verdict = 0; ranked = step; main = p .main; standby = p .standby })
+    chosen-settled n f g =
+        record {
+          main-fit = f;
+          standby-fit = g;
+          verdict-is = sym (verdict-settled (routesIn net) allowance (omega (arith, settled-within, e .allowed)));
+          ranked-is = n ∙ step-counted;
+          pair-is = b .pair-is ∙ settled-best;
+        }
 
-      passed-all : countOf (arcsIn net) (b .main .metres) (f .before) ≡ length (keep (asLong (arcsIn net) (b .main .metres)) (f .before))
-      passed-all = omega (arith, early, e .allowed)
+-- ---- counting below a length
 
-      count-within-step : count (shorter (half b)) (routesIn net) < e .step
-      count-within-step = omega (arith, counted (routesIn net) (strict net words) the-step length-rule at early here, settled-within)
+pub count-none : (routes : List Route) → count (shorter 0) routes ≡ 0
+count-none routes = ap length (keep-none (shorter 0) routes (λ r i. le-ltb (r .metres) 0 (omega arith)))
 
-      pub halved : (passed : ℕ) → passed ≡ countOf (arcsIn net) (b .main .metres) (f .before) → Halved net allowance (b .main .metres) (b .main .metres + b .standby .metres) passed
-      unfolding total
-      halved passed p =
-          record {
-            in-reach = omega (arith, length-rule .long-enough, within-reach net words (e .tally-is) (e .some) (getD-mem noRoute (routesIn net) (e .step - 1) (omega (arith, e .some, e .tally-is .to-N))));
-            few = omega (arith, count-within-step, e .allowed);
-            allowance-range = few;
-            passed-range = omega (arith, p);
-          }
+count-within : (routes : List Route) (h : ℕ) → count (within h) routes ≡ count (shorter (suc h)) routes
+unfolding within
+count-within routes h = ap length (keep-same (within h) (shorter (suc h)) routes (λ r i. go r (leb (r .metres) h) refl))
+  where
+    go : (r : Route) (b : Bool) → leb (r .metres) h ≡ b → leb (r .metres) h ≡ ltb (r .metres) (suc h)
+    go r true e = e ∙ sym (lt-ltb (r .metres) (suc h) (omega (arith, leb-true (r .metres) h e)))
+    go r false e = e ∙ sym (le-ltb (r .metres) (suc h) (omega (arith, leb-false (r .metres) h e)))
 
-      pub step-is : (passed : ℕ) → passed ≡ countOf (arcsIn net) (b .main .metres) (f .before) → stepBy (routesIn net) (b .main .metres) (b .main .metres + b .standby .metres) passed ≡ leastSettled (routesIn net)
-      unfolding stepBy total
-      step-is passed p = go (eqb (b .main .metres) ((b .main .metres + b .standby .metres + 1) / 2)) refl
-        where
-          go : (c : Bool) → eqb (b .main .metres) ((b .main .metres + b .standby .metres + 1) / 2) ≡ c → stepBy (routesIn net) (b .main .metres) (b .main .metres + b .standby .metres) passed ≡ leastSettled (routesIn net)
-          go true h =
-              let q : b .main .metres ≡ half b = eqb-true _ _ h in
-              let c = ap (λ (z : ℕ). count (shorter z) (routesIn net)) q in
-              rw (h, stepBy) (omega (arith, c, passed-all, p, counted-half (routesIn net) (strict net words) the-step length-rule at early here q))
-          go false h =
-              let no : b .main .metres ≡ half b → ⊥ = eqb-false _ _ h in
-              rw (h, stepBy) (omega (arith, counted-shorter (routesIn net) (strict net words) the-step length-rule (omega (arith, no, main-half (routesIn net) (strict net words) the-step))))
+pub swept-shorter : (m : Mesh) (metres cap : ℕ) → (metres ≡ 0 → ⊥) → metres ≤ m .reach → count (shorter metres) (ranking m) ≤ cap → (t u : Tally) → t .ranked ≡ 0 → t .over ≡ false
+    → u ≡ sweptTally m (record { lo = 0; hi = metres - 1; cap = cap }) t → u .ranked ≡ count (shorter metres) (ranking m)
+swept-shorter m metres cap pos near few t u z o e = go (u .over) refl
+  where
+    w : Window
+    w = record { lo = 0; hi = metres - 1; cap = cap }
 
--- the numbers read off a key
-pub key-parts : {key : ℕ} (r : Readable key) → (key / 2 ^ 26 / 2 ^ 27 ≡ r .shared) × (key / 2 ^ 26 % 2 ^ 27 ≡ r .main + r .standby) × (key % 2 ^ 26 ≡ r .main)
-key-parts r =
-    let t : r .main + r .standby < 2 ^ 27 = omega (arith, r .main-range, r .standby-range) in
-    let m : r .main < 2 ^ 26 = omega (arith, r .main-range) in (
-      ap (λ (k : ℕ). k / 2 ^ 26 / 2 ^ 27) (r .is) ∙ key-shared (r .shared) (r .main + r .standby) (r .main) t m,
-      ap (λ (k : ℕ). k / 2 ^ 26 % 2 ^ 27) (r .is) ∙ key-total (r .shared) (r .main + r .standby) (r .main) t m,
-      ap (λ (k : ℕ). k % 2 ^ 26) (r .is) ∙ pairKey-metres (r .shared) (r .main + r .standby) (r .main) t m,
-    )
+    whole : count (within (metres - 1)) (ranking m) ≡ count (shorter metres) (ranking m)
+    whole = count-within (ranking m) (metres - 1) ∙ ap (λ (x : ℕ). count (shorter x) (ranking m)) (omega (arith, pos))
 
--- ---- the routes that were looked for
-
-module _ (net : List ℕ) (words : Net net) (allowance : ℕ) (few : allowance ≤ mostAllowance) (run : Run) (e : Ended net allowance run) (k : Numbers) (off : ReadOff (run .tally .best) k) where
-  abbrev best-pair : Pair
-  best-pair = best (routesIn net) (e .step)
-
-  pub k-main : k .main ≡ best-pair .main .metres
-  unfolding readable
-  k-main = off .main-is ∙ key-parts (readable net words allowance few run e) .2
-
-  pub k-total : k .total ≡ best-pair .main .metres + best-pair .standby .metres
-  unfolding readable
-  k-total = off .total-is ∙ key-parts (readable net words allowance few run e) .1
-
-  pub k-standby : k .standby ≡ best-pair .standby .metres
-  unfolding readable
-  k-standby = let p = key-parts (readable net words allowance few run e) in omega (arith, off .standby-is, p .1, p .2)
-
-  pub k-key : k .key ≡ standbyKey (sharedCount best-pair) (best-pair .standby .metres)
-  unfolding readable
-  k-key = off .key-is ∙ ap₂ standbyKey (key-parts (readable net words allowance few run e) .0) k-standby
-
-  abbrev pub wantMain : Want
-  wantMain = record { metres = k .main; key = k .key; main = 0; as_main = true }
-
-  abbrev pub wantStandby : ℕ → Want
-  wantStandby risks = record { metres = k .standby; key = k .key; main = risks; as_main = false }
-
-  key-small : k .key < 65 * 2 ^ 32
-  unfolding standbyKey
-  key-small = omega (arith, k-key, n-range net words (e .tally-is) (e .some), y-range net words (e .tally-is) (e .some))
-
-  pub main-range : InRange wantMain
-  main-range = record { metres-range = omega (arith, k-main, x-range net words (e .tally-is) (e .some)); key-range = key-small }
-
-  pub standby-range : (risks : ℕ) → InRange (wantStandby risks)
-  standby-range risks = record { metres-range = omega (arith, k-standby, y-range net words (e .tally-is) (e .some)); key-range = key-small }
-
-  module _ (m : Found) (o : Outcome (arcsIn net) (k .main) (wantedIn net wantMain) (allIn net) (soughtIn m)) where
-    -- the main was found
-    pub record MainFound : Type 0 where
-      pub first-main : First (arcsIn net) (best-pair .main .metres) (wantedIn net (asMain net words (e .tally-is) (e .some))) (allIn net)
-      pub passed-is : m .passed ≡ countOf (arcsIn net) (best-pair .main .metres) (first-main .before)
-      pub route-is : routeIn (m .track) ≡ routeOf (arcsIn net) (first-main .ks)
-
-    pub main-found : MainFound
-    main-found = go (subst (λ (w : Want). Outcome (arcsIn net) (w .metres) (wantedIn net w) (allIn net) (soughtIn m)) same o)
-      where
-        same : wantMain ≡ asMain net words (e .tally-is) (e .some)
-        same = ap₂ (λ (x y : ℕ). made x y) k-main k-key
-          where
-            made : ℕ → ℕ → Want
-            made x y = record { metres = x; key = y; main = 0; as_main = true }
-
-        go : Outcome (arcsIn net) (best-pair .main .metres) (wantedIn net (asMain net words (e .tally-is) (e .some))) (allIn net) (soughtIn m) → MainFound
-        go (Outcome.first f a p r) = record { first-main = f; passed-is = p; route-is = r }
-        go (Outcome.nowhere none a p r) = absurd (main-somewhere net words (e .tally-is) (e .some) none)
-
-    module _ (s : Found) (o₂ : Outcome (arcsIn net) (k .standby) (wantedIn net (wantStandby (m .track .risks))) (allIn net) (soughtIn s)) where
-      -- the two routes are the best pair
-      pub pair-found : _≡_ {A = Pair} (record { main = routeIn (m .track); standby = routeIn (s .track) }) best-pair
-      unfolding routeIn
-      pair-found = go (subst (λ (w : Want). Outcome (arcsIn net) (w .metres) (wantedIn net w) (allIn net) (soughtIn s)) same o₂)
-        where
-          f : First (arcsIn net) (best-pair .main .metres) (wantedIn net (asMain net words (e .tally-is) (e .some))) (allIn net)
-          f = main-found .first-main
-
-          risks-is : m .track .risks ≡ routeOf (arcsIn net) (f .ks) .risks
-          risks-is = ap (λ (r : Route). r .risks) (main-found .route-is)
-
-          made : ℕ → ℕ → ℕ → Want
-          made x y z = record { metres = x; key = y; main = z; as_main = false }
-
-          same : wantStandby (m .track .risks) ≡ asStandby net words (e .tally-is) (e .some) f
-          same = ap₂ (λ (x y : ℕ). made x y (m .track .risks)) k-standby k-key ∙ ap (made (best-pair .standby .metres) (standbyKey (sharedCount best-pair) (best-pair .standby .metres))) risks-is
-
-          go : Outcome (arcsIn net) (best-pair .standby .metres) (wantedIn net (asStandby net words (e .tally-is) (e .some) f)) (allIn net) (soughtIn s)
-              → _≡_ {A = Pair} (record { main = routeIn (m .track); standby = routeIn (s .track) }) best-pair
-          go (Outcome.first g a p r) = ap₂ (λ (x y : Route). pair x y) (main-found .route-is) r ∙ sym (best-is-pair net words (e .tally-is) (e .some) f g)
-          go (Outcome.nowhere none a p r) = absurd (standby-somewhere net words (e .tally-is) (e .some) f none)
-
-      main-same : best-pair .main ≡ routeOf (arcsIn net) (main-found .first-main .ks)
-      main-same = ap (λ (p : Pair). p .main) (sym pair-found) ∙ main-found .route-is
-
-      pub step-halved : run .end ≡ 0 → Halved net allowance (k .main) (k .total) (m .passed)
-      step-halved end = rw (k-main, k-total) (halved net words allowance few run e end (main-found .first-main) main-same (m .passed) (main-found .passed-is))
-
-      pub step-counted : run .end ≡ 0 → stepBy (routesIn net) (k .main) (k .total) (m .passed) ≡ ranked (routesIn net) allowance
-      step-counted end =
-          ap₂ (λ (x y : ℕ). stepBy (routesIn net) x y (m .passed)) k-main k-total ∙ step-is net words allowance few run e end (main-found .first-main) main-same (m .passed) (main-found .passed-is)
-          ∙ sym (length-settled net words allowance few run e end .1)
-
-  -- the step replied has the best pair
-  pub ranked-pair : {c : ℕ} → ranked (routesIn net) allowance ≡ c → best (routesIn net) c ≡ best-pair → best-pair ≡ best (routesIn net) (ranked (routesIn net) allowance)
-  ranked-pair r p = sym (ap (best (routesIn net)) r ∙ p)
-
-  pub ranked-small : ranked (routesIn net) allowance ≤ mostAllowance
-  unfolding ranked
-  ranked-small = omega arith
+    go : (b : Bool) → u .over ≡ b → u .ranked ≡ count (shorter metres) (ranking m)
+    go true f = absurd (omega (arith, swept-over m w t u o e (omega arith) (omega arith) f, whole))
+    go false f = omega (arith, swept-count m w t u o e (omega arith) (omega arith) f, count-none (ranking m), whole)

@@ -1,3 +1,3 @@
-pub mod ChooseLaws
 pub mod RouteChoice
+pub mod PairingLaws
 pub mod EndLaws

@@ -1,43 +1,68 @@
 -- From the end of a run to the reply: the pair's own routes, the number ranked, the verdict. Assumes nothing.
-use Prim.Native.Nat.{ℕ, _+_, _-_, _/_, _%_, _^_, _≤_}
+use Prim.Native.Nat.{ℕ, _+_, _-_, _/_, _≤_, _<_}
 use mathlib.Core.List.{List}
 use mathlib.Core.Path.{_≡_}
 use lib.Dec.{eqb}
+use lib.ListN.{length, getD}
 use Rattle.laws.specs.Choosing.{if_then_else_}
-use Rattle.problem.specs.Table.{mostReach, mostAllowance}
-use Rattle.problem.specs.Routes.{Route}
-use Rattle.problem.specs.Pairs.{Pair, best, ranked, verdict}
-use Rattle.problem.proofs.WindowLaws.{count, shorter}
-use Rattle.keys.specs.Keys.{standbyKey, pairKey}
-use Rattle.net.specs.Net.{reachAt, wordAt}
-use Rattle.track.specs.Track.{routeIn, Fit}
-use Rattle.plan.specs.Plan.{routesIn}
+use Rattle.problem.specs.Table.{mostShared, mostReach, mostAllowance}
+use Rattle.problem.specs.Routes.{Route, count, shorter}
+use Rattle.problem.specs.Pairs.{noRoute, every, best, ranked, verdict}
+use Rattle.keys.specs.Keys.{standbyKey, pairKey, keyOf, sharedOf, totalOf, mainOf}
+use Rattle.net.specs.Net.{meshIn, routesIn}
+use Rattle.tally.specs.declared.Tally.{Tally}
+use Rattle.track.specs.Track.{routeIn, pairIn, Fit}
 use Rattle.choose.specs.declared.Choice.{Choice}
 use Rattle.choose.specs.declared.Numbers.{Numbers}
+use Rattle.choose.specs.declared.Pairing.{Pairing}
 
 -- what a reply says besides the floor
-pub record Chosen (net : List ℕ) (allowance : ℕ) (c : Choice) : Type 0 where
+pub record Chosen (routes : List Route) (allowance : ℕ) (c : Choice) : Type 0 where
   pub main-fit : Fit (c .main)
   pub standby-fit : Fit (c .standby)
-  pub verdict-is : c .verdict ≡ verdict (routesIn net) allowance
-  pub ranked-is : c .ranked ≡ ranked (routesIn net) allowance
-  pub pair-is : _≡_ {A = Pair} (record { main = routeIn (c .main); standby = routeIn (c .standby) }) (best (routesIn net) (ranked (routesIn net) allowance))
+  pub verdict-is : c .verdict ≡ verdict every routes allowance
+  pub ranked-is : c .ranked ≡ ranked every routes allowance
+  pub pair-is : pairIn (c .main) (c .standby) ≡ best every routes (ranked every routes allowance)
 
 -- the key of a pair of routes, and the numbers read off it
 pub record Readable (key : ℕ) : Type 0 where
   pub shared : ℕ
   pub main : ℕ
   pub standby : ℕ
-  pub shared-range : shared ≤ 64
+  pub shared-range : shared ≤ mostShared
   pub main-range : main ≤ mostReach
   pub standby-range : standby ≤ mostReach
   pub is : key ≡ pairKey shared (main + standby) main
 
 pub record ReadOff (key : ℕ) (n : Numbers) : Type 0 where
-  pub key-is : n .key ≡ standbyKey (key / 2 ^ 26 / 2 ^ 27) (n .standby)
-  pub main-is : n .main ≡ key % 2 ^ 26
-  pub standby-is : n .standby ≡ key / 2 ^ 26 % 2 ^ 27 - key % 2 ^ 26
-  pub total-is : n .total ≡ key / 2 ^ 26 % 2 ^ 27
+  pub key-is : n .key ≡ standbyKey (sharedOf key) (n .standby)
+  pub main-is : n .main ≡ mainOf key
+  pub standby-is : n .standby ≡ totalOf key - mainOf key
+
+-- a step whose best pair has the key
+pub record OfStep (routes : List Route) (key step : ℕ) : Type 0 where
+  pub some : 0 < step
+  pub to-N : step ≤ length routes
+  pub few : step ≤ mostAllowance
+  pub is : key ≡ keyOf (best every routes step)
+
+-- the best pair of a step, and where its main stands in the ranking: behind the shorter routes and those of its length that came before it
+pub record BestOf (routes : List Route) (step : ℕ) (p : Pairing) : Type 0 where
+  pub pair-is : pairIn (p .main) (p .standby) ≡ best every routes step
+  pub place-is : getD routes (count (shorter (p .main .metres)) routes + p .passed) noRoute ≡ routeIn (p .main)
+  pub early : count (shorter (p .main .metres)) routes + p .passed < step
+
+-- what is found by a key: the best pair of every step that has it
+pub record ByKey (routes : List Route) (key : ℕ) (p : Pairing) : Type 0 where
+  pub main-fit : Fit (p .main)
+  pub standby-fit : Fit (p .standby)
+  pub best-of : {j : ℕ} → OfStep routes key j → BestOf routes j p
+
+-- the tally of a run that ranked no more than it replies, with this verdict
+pub record AsRanked (routes : List Route) (allowance : ℕ) (t : Tally) (word : ℕ) : Type 0 where
+  pub of-step : OfStep routes (t .best) (t .ranked)
+  pub ranked-is : t .ranked ≡ ranked every routes allowance
+  pub verdict-is : word ≡ verdict every routes allowance
 
 -- the counted step of a pair of so many metres in total, whose main stands behind `passed` routes of its length
 unfoldable pub stepBy : List Route → ℕ → ℕ → ℕ → ℕ
@@ -46,7 +71,7 @@ stepBy routes main total passed =
 
 -- what the count may rely on
 pub record Halved (net : List ℕ) (allowance main total passed : ℕ) : Type 0 where
-  pub in-reach : (total + 1) / 2 ≤ wordAt net reachAt
+  pub in-reach : (total + 1) / 2 ≤ meshIn net .reach
   pub few : count (shorter ((total + 1) / 2)) (routesIn net) ≤ allowance
   pub allowance-range : allowance ≤ mostAllowance
   pub passed-range : passed ≤ mostAllowance

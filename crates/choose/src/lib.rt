@@ -1,20 +1,23 @@
 // From the end of a run to the reply: the pair is known by its numbers alone until here, and its routes are looked for once.
+use find::Want;
 use plan::Run;
-use sweep::Tally;
 use sweep::Window;
-use trace::Want;
+use tally::Tally;
 use track::Track;
 ghost use mathlib.Core.Path.{_≡_};
-ghost use mathlib.Core.Bool.{true, false};
-ghost use Prim.Native.Nat.{_+_, _-_, _/_, _%_, _≤_};
+ghost use Prim.Native.Nat.{_≤_};
 ghost use Rattle.problem.specs.Table.{mostAllowance};
-ghost use Rattle.problem.specs.Pairs.{best};
-ghost use Rattle.problem.proofs.WindowLaws.{count, shorter};
-ghost use Rattle.net.specs.Net.{Net, wordAt, reachAt};
-ghost use Rattle.plan.specs.Plan.{routesIn, Ended};
-ghost use Rattle.choose.specs.Choose.{Chosen, Readable, ReadOff, stepBy, Halved};
+ghost use Rattle.problem.specs.Routes.{count, shorter};
+ghost use Rattle.net.specs.Net.{Net, meshIn, routesIn};
+ghost use Rattle.plan.specs.declared.Run.the-variants.{ByLength};
+ghost use Rattle.plan.specs.Plan.{Ended};
+ghost use Rattle.choose.specs.Choose.{Chosen, Readable, ReadOff, ByKey, AsRanked, stepBy, Halved};
 
-// 0 settled or 1 stopped, how many routes were ranked, and the pair.
+const SETTLED: u8 = 0;
+
+const STOPPED: u8 = 1;
+
+// The verdict, how many routes were ranked, and the pair.
 pub struct Choice {
     pub verdict: u8,
     pub ranked: u32,
@@ -24,7 +27,7 @@ pub struct Choice {
 
 // How many routes are shorter than so many metres: a sweep in which no pair can get better.
 fn count_shorter(net: &[u64], metres: u64, cap: u64) -> u64
-    requires { ⌜ Net (now net) × (metres ≤ wordAt (now net) reachAt) × (count (shorter metres) (routesIn (now net)) ≤ cap) ⌝ }
+    requires { ⌜ Net (now net) × (metres ≤ meshIn (now net) .reach) × (count (shorter metres) (routesIn (now net)) ≤ cap) ⌝ }
     ensures { λ r. ⌜ r ≡ count (shorter metres) (routesIn (now (net .entry))) ⌝ }
 {
     if metres == 0 {
@@ -41,32 +44,69 @@ fn count_shorter(net: &[u64], metres: u64, cap: u64) -> u64
         best: 0,
         over: false,
     };
-    let s = plan::one_window(net, w, t);
+    let s = sweep::sweep(net, w, t);
     let u = s.tally;
     u.ranked
 }
 
-// The best pair's numbers, read off its key: the standby's key, the main's metres and the standby's.
+// A pair's numbers, read off its key: the standby's key, the main's metres and the standby's.
 struct Numbers {
     key: u64,
     main: u64,
     standby: u64,
-    total: u64,
 }
 
 fn read_off(best: u64) -> Numbers
     requires { ⌜ Readable best ⌝ }
     ensures { λ r. ⌜ ReadOff best r ⌝ }
 {
-    let high = best / 67108864;
-    let main = best % 67108864;
-    let total = high % 134217728;
-    let standby = total - main;
+    let main = keys::main_of(best);
+    let standby = keys::total_of(best) - main;
     Numbers {
-        key: keys::standby_key(high / 134217728, standby),
+        key: keys::standby_key(keys::shared_of(best), standby),
         main: main,
         standby: standby,
-        total: total,
+    }
+}
+
+// A pair, and how many routes of the main's length stand before the main.
+struct Pairing {
+    main: Track,
+    standby: Track,
+    passed: u64,
+}
+
+// The pair whose key is `best`: the first main of its length, in depth-first order, that makes such a pair, and the first standby that makes it with that main.
+fn pair_by(net: &[u64], best: u64) -> Pairing
+    requires { ⌜ Net (now net) × Readable best ⌝ }
+    ensures { λ r. ⌜ ByKey (routesIn (now (net .entry))) best r ⌝ }
+{
+    let n = read_off(best);
+    let m = find::first_route(
+        net,
+        Want {
+            metres: n.main,
+            key: n.key,
+            main: exposure::nothing(),
+            as_main: true,
+        },
+    );
+    let main = m.track;
+    let exposure = main.exposure;
+    let s = find::first_route(
+        net,
+        Want {
+            metres: n.standby,
+            key: n.key,
+            main: exposure,
+            as_main: false,
+        },
+    );
+    let standby = s.track;
+    Pairing {
+        main: main,
+        standby: standby,
+        passed: m.passed,
     }
 }
 
@@ -83,54 +123,48 @@ fn settled_step(net: &[u64], allowance: u64, main: u64, total: u64, passed: u64)
     shorter + 1
 }
 
-// The pair's routes, the number ranked and the verdict, from the end of a run.
-pub fn choose(net: &[u64], allowance: u64, run: Run) -> Choice
-    requires { ⌜ Net (now net) × (allowance ≤ mostAllowance) × Ended (now net) allowance run ⌝ }
-    ensures { λ r. ⌜ Chosen (now (net .entry)) allowance r ⌝ }
+// The reply of a run that ended settled by length: what is ranked is the step that settles, not where the run ended.
+fn settled(net: &[u64], allowance: u64, t: Tally) -> Choice
+    requires { ⌜ Net (now net) × (allowance ≤ mostAllowance) × Ended (now net) allowance (ByLength t) ⌝ }
+    ensures { λ r. ⌜ Chosen (routesIn (now (net .entry))) allowance r ⌝ }
 {
-    let t = run.tally;
-    let k = read_off(t.best);
-    let m = trace::first_route(
-        net,
-        Want {
-            metres: k.main,
-            key: k.key,
-            main: 0,
-            as_main: true,
-        },
-    );
-    let main = m.track;
-    let s = trace::first_route(
-        net,
-        Want {
-            metres: k.standby,
-            key: k.key,
-            main: main.risks,
-            as_main: false,
-        },
-    );
-    let standby = s.track;
-    if run.end == 0 {
-        let step = settled_step(net, allowance, k.main, k.total, m.passed);
-        return Choice {
-            verdict: 0,
-            ranked: step as u32,
-            main: main,
-            standby: standby,
-        };
-    }
-    if run.end == 1 {
-        return Choice {
-            verdict: 0,
-            ranked: t.ranked as u32,
-            main: main,
-            standby: standby,
-        };
-    }
+    let p = pair_by(net, t.best);
+    let main = p.main;
+    let standby = p.standby;
+    let total = main.metres as u64 + standby.metres as u64;
+    let step = settled_step(net, allowance, main.metres as u64, total, p.passed);
     Choice {
-        verdict: 1,
+        verdict: SETTLED,
+        ranked: step as u32,
+        main: main,
+        standby: standby,
+    }
+}
+
+// The reply of a run that ranked no more than it replies.
+fn as_ranked(net: &[u64], allowance: u64, t: Tally, verdict: u8) -> Choice
+    requires { ⌜ Net (now net) × (allowance ≤ mostAllowance) × AsRanked (routesIn (now net)) allowance t verdict ⌝ }
+    ensures { λ r. ⌜ Chosen (routesIn (now (net .entry))) allowance r ⌝ }
+{
+    let p = pair_by(net, t.best);
+    let main = p.main;
+    let standby = p.standby;
+    Choice {
+        verdict: verdict,
         ranked: t.ranked as u32,
         main: main,
         standby: standby,
+    }
+}
+
+// The pair's routes, the number ranked and the verdict, from the end of a run.
+pub fn choose(net: &[u64], allowance: u64, run: Run) -> Choice
+    requires { ⌜ Net (now net) × (allowance ≤ mostAllowance) × Ended (now net) allowance run ⌝ }
+    ensures { λ r. ⌜ Chosen (routesIn (now (net .entry))) allowance r ⌝ }
+{
+    match run {
+        Run::ByLength(t) => settled(net, allowance, t),
+        Run::AllRanked(t) => as_ranked(net, allowance, t, SETTLED),
+        Run::AtAllowance(t) => as_ranked(net, allowance, t, STOPPED),
     }
 }

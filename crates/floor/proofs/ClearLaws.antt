@@ -1,5 +1,5 @@
--- Clearing: an arc that clears a risk keeps what clearing says of ways, and where no arc clears one more and the reach has kept none from it, the
--- risks left lie on every way: along it, each node's risks are the arc's or the next node's. Assumes nothing.
+-- Clearing: an arc that clears a risk keeps what clearing says of ways, and where no arc clears one more and the reach has kept none from it, what is
+-- left lies on every way: along it, what a node is exposed to, the arc is or the next node. Assumes nothing.
 use mathlib.Core.Path.{_≡_, refl, sym, ap, _∙_}
 use mathlib.Core.Bool.{Bool, true, false, false≢true}
 use mathlib.Core.List.{List, [], _∷_}
@@ -7,74 +7,76 @@ use Prim.Native.Nat.{ℕ, _+_, _≤_, _<_, min, max}
 use native.Mathlib.Decide.{ℕ-discrete}
 use native.Mathlib.Nat.{not-suc-le-zero}
 use native.Mathlib.Omega.{arith}
-use lib.Bits.{bitAnd, bitOr, and-zero-l, and-zero-r}
 use lib.ListN.{length, getD, set, length-set}
 use lib.Seq.{getD-set-same, getD-set-other}
 use borrow.Author.Count.{below-more}
-use Rattle.laws.specs.Sets.{bit}
-use Rattle.laws.proofs.SetLaws.{bit-and, bit-or, bit-empty, bit-le-one}
-use Rattle.problem.specs.Table.{SoundArc}
+use Rattle.problem.specs.Table.{lastNode, SoundArc}
 use Rattle.problem.specs.declared.Arc.{Arc}
-use Rattle.problem.specs.Routes.{arcAt, metresOf, risksOf, Way}
-use Rattle.problem.proofs.WayLaws.{FreeWay}
-use Rattle.side.specs.declared.Entry.{Entry}
+use Rattle.problem.specs.declared.Exposure.{Exposure}
+use Rattle.problem.specs.Exposures.{exposed, toNothing, ofArc, joined, common}
+use Rattle.problem.specs.Routes.{Mesh, arcAt, metresOf, exposureOf, Way, FreeWay}
+use Rattle.problem.proofs.ExposureLaws.{exposed-le-one, exposed-nothing, exposed-joined, exposed-common, exposure-ext, disjoint-nothing}
+use Rattle.side.specs.declared.Distance.{Distance}
 use Rattle.side.specs.declared.Side.{Side}
-use Rattle.side.specs.Side.{unreached, entryAt, reachedAt, metresAt, risksAt, SideTable}
+use Rattle.side.specs.Side.{unreached, entryAt, reachedAt, metresAt, exposureAt, SideTable}
 use Rattle.floor.specs.Clearing.{Avoids, Clearing, Finished, Settled, Rounded}
 
 -- ---- ways that avoid a risk
 
 module _ (arcs : List Arc) (terminal : ℕ) where
-  -- where none is banned, every way is free
-  pub way-free : {v : ℕ} {ks : List ℕ} → Way arcs v terminal ks → FreeWay arcs 0 terminal v ks
-  way-free {ks = ks} w = record { way = w; free = and-zero-r (risksOf arcs ks) }
+  -- where nothing is banned, every way is free
+  pub way-free : {v : ℕ} {ks : List ℕ} → Way arcs v terminal ks → FreeWay arcs toNothing terminal v ks
+  way-free {ks = ks} w = record { way = w; free = disjoint-nothing (exposureOf arcs ks) }
 
   avoids-longer : {v b m n : ℕ} → Avoids arcs terminal v b m → m ≤ n → Avoids arcs terminal v b n
   avoids-longer w l = record { list = w .list; way = w .way; free = w .free; short = omega (arith, w .short) }
 
   -- over an arc that is free of the risk
-  avoids-over : {b m n : ℕ} (k : ℕ) → k < length arcs → bit (arcAt arcs k .risks) b ≡ 0 → Avoids arcs terminal (arcAt arcs k .head) b m → m + arcAt arcs k .metres ≤ n → Avoids arcs terminal (arcAt arcs k .tail) b n
-  unfolding metresOf risksOf
+  avoids-over : {b m n : ℕ} (k : ℕ) → k < length arcs → exposed (ofArc (arcAt arcs k)) b ≡ 0 → Avoids arcs terminal (arcAt arcs k .head) b m → m + arcAt arcs k .metres ≤ n → Avoids arcs terminal (arcAt arcs k .tail) b n
+  unfolding metresOf exposureOf
   avoids-over k h f w l =
-      record { list = k ∷ w .list; way = Way.over h refl (w .way); free = rw bit-or (omega (arith, w .free)); short = omega (arith, w .short) }
+      record { list = k ∷ w .list; way = Way.over h refl (w .way); free = rw exposed-joined (omega (arith, w .free)); short = omega (arith, w .short) }
 
   avoids-there : {v : ℕ} (b n : ℕ) → v ≡ terminal → Avoids arcs terminal v b n
-  unfolding metresOf risksOf
-  avoids-there b n e = record { list = []; way = Way.there e; free = bit-empty b; short = omega arith }
+  unfolding metresOf exposureOf
+  avoids-there b n e = record { list = []; way = Way.there e; free = exposed-nothing b; short = omega arith }
 
   -- the way that a reached node's entry stands for
-  pub entry-avoids : {banned : ℕ} {s : Side} → SideTable arcs terminal banned s → (v : ℕ) → reachedAt s v ≡ true → (b : ℕ) → bit (risksAt s v) b ≡ 0 → Avoids arcs terminal v b (metresAt s v)
+  pub entry-avoids : {banned : Exposure} {s : Side} → SideTable arcs terminal banned s → (v : ℕ) → reachedAt s v ≡ true → (b : ℕ) → exposed (exposureAt s v) b ≡ 0 → Avoids arcs terminal v b (metresAt s v)
   entry-avoids table v e b z =
       let w = table .entries .reaches v e in
-      record { list = w .list; way = w .free-way .way; free = ap (λ (x : ℕ). bit x b) (w .same-risks) ∙ z; short = omega (arith, w .same-metres) }
+      record { list = w .list; way = w .free-way .way; free = ap (λ (x : Exposure). exposed x b) (w .same-exposure) ∙ z; short = omega (arith, w .same-metres) }
 
--- ---- before the first round: the side table with no risk banned, but for the terminal's own entry
+-- ---- before the first round: the side table with nothing banned, but for the terminal's own entry
 
-module _ (arcs : List Arc) (terminal reach : ℕ) (plain : Side) (table : SideTable arcs terminal 0 plain) where
-  pub clearing-start : length (plain .entries) ≡ 32 → length (plain .risks) ≡ 32 → terminal < 32
-      → Clearing arcs terminal reach plain (record { entries = plain .entries; risks = set (plain .risks) terminal 0 })
-  clearing-start m r h = record {
-    entries-size = m;
-    risks-size = length-set (plain .risks) terminal 0 ∙ r;
+module _ (arcs : List Arc) (terminal reach : ℕ) (plain : Side) (table : SideTable arcs terminal toNothing plain) where
+  pub clearing-start : length (plain .entries) ≡ 32 → length (plain .exposures) ≡ 32 → terminal ≤ lastNode
+      → Clearing arcs terminal reach plain (record { entries = plain .entries; exposures = set (plain .exposures) terminal toNothing })
+  clearing-start n r h = record {
+    entries-size = n;
+    exposures-size = length-set (plain .exposures) terminal toNothing ∙ r;
     same-reached = λ v. refl;
     avoids = λ v e b z. go v e b z (ℕ-discrete v terminal);
     within = λ v. omega arith;
-    terminal-clear = getD-set-same (plain .risks) terminal 0 0 (omega arith);
+    terminal-clear = getD-set-same (plain .exposures) terminal toNothing toNothing (omega arith);
   }
     where
-      go : (v : ℕ) → reachedAt plain v ≡ true → (b : ℕ) → bit (getD (set (plain .risks) terminal 0) v 0) b ≡ 0 → Dec (v ≡ terminal) → Avoids arcs terminal v b (metresAt plain v)
+      go : (v : ℕ) → reachedAt plain v ≡ true → (b : ℕ) → exposed (getD (set (plain .exposures) terminal toNothing) v toNothing) b ≡ 0 → Dec (v ≡ terminal) → Avoids arcs terminal v b (metresAt plain v)
       go v e b z (yes q) = avoids-there arcs terminal b (metresAt plain v) q
-      go v e b z (no n) = entry-avoids arcs terminal table v e b (ap (λ (x : ℕ). bit x b) (sym (getD-set-other (plain .risks) terminal v 0 0 n)) ∙ z)
+      go v e b z (no n) = entry-avoids arcs terminal table v e b (ap (λ (x : Exposure). exposed x b) (sym (getD-set-other (plain .exposures) terminal v toNothing toNothing n)) ∙ z)
 
 -- ---- an arc of a round
 
--- the risks at the arc's tail, less those that the arc and ways from its head are free of
-abbrev pub risksOver : Side → Arc → ℕ
-risksOver s a = bitAnd (risksAt s (a .tail)) (bitOr (a .risks) (risksAt s (a .head)))
+-- what the arc's tail is exposed to, less what the arc and ways from its head are free of
+abbrev pub exposureOver : Side → Arc → Exposure
+exposureOver s a = common (exposureAt s (a .tail)) (joined (ofArc a) (exposureAt s (a .head)))
+
+nothing-common : (a b : Exposure) → a ≡ toNothing → common a b ≡ toNothing
+nothing-common a b e = exposure-ext _ _ (λ r. rw (exposed-common, e, exposed-nothing) (omega arith))
 
 -- the tail's entry made anew, with the given length
 unfoldable pub clearedBy : Side → Arc → ℕ → Side
-clearedBy s a metres = record { entries = set (s .entries) (a .tail) (record { metres = metres; reached = reachedAt s (a .tail) }); risks = set (s .risks) (a .tail) (risksOver s a) }
+clearedBy s a metres = record { entries = set (s .entries) (a .tail) (record { metres = metres; reached = reachedAt s (a .tail) }); exposures = set (s .exposures) (a .tail) (exposureOver s a) }
 
 module _ (arcs : List Arc) (terminal reach : ℕ) (plain s : Side) (k far : ℕ) (inside : k < length arcs) (sound : SoundArc (arcAt arcs k))
     (reached : reachedAt s (arcAt arcs k .head) ≡ true) (fits : metresAt s (arcAt arcs k .head) + arcAt arcs k .metres ≤ reach)
@@ -83,23 +85,23 @@ module _ (arcs : List Arc) (terminal reach : ℕ) (plain s : Side) (k far : ℕ)
   a = arcAt arcs k
 
   -- the tail's entry
-  abbrev new : Entry
+  abbrev new : Distance
   new = record { metres = far; reached = reachedAt s (a .tail) }
 
   in-entries : a .tail < length (s .entries)
   in-entries = omega (arith, sound .tail-node, c .entries-size)
 
-  in-risks : a .tail < length (s .risks)
-  in-risks = omega (arith, sound .tail-node, c .risks-size)
+  in-exposures : a .tail < length (s .exposures)
+  in-exposures = omega (arith, sound .tail-node, c .exposures-size)
 
   -- as it was, or over the arc
-  tail-avoids : reachedAt s (a .tail) ≡ true → (b : ℕ) → bit (risksOver s a) b ≡ 0 → Avoids arcs terminal (a .tail) b far
-  tail-avoids e b z = go (ℕ-discrete (bit (risksAt s (a .tail)) b) 0)
+  tail-avoids : reachedAt s (a .tail) ≡ true → (b : ℕ) → exposed (exposureOver s a) b ≡ 0 → Avoids arcs terminal (a .tail) b far
+  tail-avoids e b z = go (ℕ-discrete (exposed (exposureAt s (a .tail)) b) 0)
     where
-      both : min (bit (risksAt s (a .tail)) b) (max (bit (a .risks) b) (bit (risksAt s (a .head)) b)) ≡ 0
-      both = rw (bit-and, bit-or) at z
+      both : min (exposed (exposureAt s (a .tail)) b) (max (exposed (ofArc a) b) (exposed (exposureAt s (a .head)) b)) ≡ 0
+      both = rw (exposed-common, exposed-joined) at z
 
-      go : Dec (bit (risksAt s (a .tail)) b ≡ 0) → Avoids arcs terminal (a .tail) b far
+      go : Dec (exposed (exposureAt s (a .tail)) b ≡ 0) → Avoids arcs terminal (a .tail) b far
       go (yes q) = avoids-longer arcs terminal (c .avoids (a .tail) e b q) (omega arith)
       go (no n) = avoids-over arcs terminal k inside (omega (arith, both)) (c .avoids (a .head) reached b (omega (arith, both))) (omega arith)
 
@@ -107,7 +109,7 @@ module _ (arcs : List Arc) (terminal reach : ℕ) (plain s : Side) (k far : ℕ)
   unfolding clearedBy
   clearing-on = record {
     entries-size = length-set (s .entries) (a .tail) new ∙ c .entries-size;
-    risks-size = length-set (s .risks) (a .tail) (risksOver s a) ∙ c .risks-size;
+    exposures-size = length-set (s .exposures) (a .tail) (exposureOver s a) ∙ c .exposures-size;
     same-reached = λ v. reached-at v (ℕ-discrete v (a .tail)) ∙ c .same-reached v;
     avoids = λ v e b z. avoids-at v (sym (reached-at v (ℕ-discrete v (a .tail))) ∙ e) b z (ℕ-discrete v (a .tail));
     within = λ v. within-at v (ℕ-discrete v (a .tail));
@@ -121,36 +123,36 @@ module _ (arcs : List Arc) (terminal reach : ℕ) (plain s : Side) (k far : ℕ)
       other-entry v n = getD-set-other (s .entries) (a .tail) v new unreached n
 
       reached-at : (v : ℕ) → Dec (v ≡ a .tail) → getD (set (s .entries) (a .tail) new) v unreached .reached ≡ reachedAt s v
-      reached-at v (yes q) = ap (λ (e : Entry). e .reached) (tail-entry q) ∙ ap (reachedAt s) (sym q)
-      reached-at v (no n) = ap (λ (e : Entry). e .reached) (other-entry v n)
+      reached-at v (yes q) = ap (λ (e : Distance). e .reached) (tail-entry q) ∙ ap (reachedAt s) (sym q)
+      reached-at v (no n) = ap (λ (e : Distance). e .reached) (other-entry v n)
 
       metres-tail : {v : ℕ} → v ≡ a .tail → getD (set (s .entries) (a .tail) new) v unreached .metres ≡ far
-      metres-tail q = ap (λ (e : Entry). e .metres) (tail-entry q)
+      metres-tail q = ap (λ (e : Distance). e .metres) (tail-entry q)
 
       other-metres : (v : ℕ) → (v ≡ a .tail → ⊥) → getD (set (s .entries) (a .tail) new) v unreached .metres ≡ metresAt s v
-      other-metres v n = ap (λ (e : Entry). e .metres) (other-entry v n)
+      other-metres v n = ap (λ (e : Distance). e .metres) (other-entry v n)
 
-      other-risks : (v : ℕ) → (v ≡ a .tail → ⊥) → getD (set (s .risks) (a .tail) (risksOver s a)) v 0 ≡ risksAt s v
-      other-risks v n = getD-set-other (s .risks) (a .tail) v (risksOver s a) 0 n
+      other-exposure : (v : ℕ) → (v ≡ a .tail → ⊥) → getD (set (s .exposures) (a .tail) (exposureOver s a)) v toNothing ≡ exposureAt s v
+      other-exposure v n = getD-set-other (s .exposures) (a .tail) v (exposureOver s a) toNothing n
 
-      avoids-at : (v : ℕ) → reachedAt s v ≡ true → (b : ℕ) → bit (getD (set (s .risks) (a .tail) (risksOver s a)) v 0) b ≡ 0 → Dec (v ≡ a .tail)
+      avoids-at : (v : ℕ) → reachedAt s v ≡ true → (b : ℕ) → exposed (getD (set (s .exposures) (a .tail) (exposureOver s a)) v toNothing) b ≡ 0 → Dec (v ≡ a .tail)
           → Avoids arcs terminal v b (getD (set (s .entries) (a .tail) new) v unreached .metres)
       avoids-at v e b z (yes q) = rw (metres-tail q, q)
           (tail-avoids (ap (reachedAt s) (sym q) ∙ e) b
-          (ap (λ (x : ℕ). bit x b) (sym (getD-set-same (s .risks) (a .tail) (risksOver s a) 0 in-risks))
-          ∙ (ap (λ (u : ℕ). bit (getD (set (s .risks) (a .tail) (risksOver s a)) u 0) b) (sym q) ∙ z)))
-      avoids-at v e b z (no n) = rw (other-metres v n) (c .avoids v e b (ap (λ (x : ℕ). bit x b) (sym (other-risks v n)) ∙ z))
+          (ap (λ (x : Exposure). exposed x b) (sym (getD-set-same (s .exposures) (a .tail) (exposureOver s a) toNothing in-exposures))
+          ∙ (ap (λ (u : ℕ). exposed (getD (set (s .exposures) (a .tail) (exposureOver s a)) u toNothing) b) (sym q) ∙ z)))
+      avoids-at v e b z (no n) = rw (other-metres v n) (c .avoids v e b (ap (λ (x : Exposure). exposed x b) (sym (other-exposure v n)) ∙ z))
 
       within-at : (v : ℕ) → Dec (v ≡ a .tail) → getD (set (s .entries) (a .tail) new) v unreached .metres ≤ max reach (metresAt plain v)
       within-at v (yes q) = rw (metres-tail q, q) (omega (arith, c .within (a .tail)))
       within-at v (no n) = rw (other-metres v n) (c .within v)
 
-      clear-at : Dec (terminal ≡ a .tail) → getD (set (s .risks) (a .tail) (risksOver s a)) terminal 0 ≡ 0
+      clear-at : Dec (terminal ≡ a .tail) → getD (set (s .exposures) (a .tail) (exposureOver s a)) terminal toNothing ≡ toNothing
       clear-at (yes q) =
-          let none : risksAt s (a .tail) ≡ 0 = ap (risksAt s) (sym q) ∙ c .terminal-clear in
-          ap (λ (u : ℕ). getD (set (s .risks) (a .tail) (risksOver s a)) u 0) q
-          ∙ (getD-set-same (s .risks) (a .tail) (risksOver s a) 0 in-risks ∙ (ap (λ (x : ℕ). bitAnd x (bitOr (a .risks) (risksAt s (a .head)))) none ∙ and-zero-l (bitOr (a .risks) (risksAt s (a .head)))))
-      clear-at (no n) = other-risks terminal n ∙ c .terminal-clear
+          let none : exposureAt s (a .tail) ≡ toNothing = ap (exposureAt s) (sym q) ∙ c .terminal-clear in
+          ap (λ (u : ℕ). getD (set (s .exposures) (a .tail) (exposureOver s a)) u toNothing) q
+          ∙ (getD-set-same (s .exposures) (a .tail) (exposureOver s a) toNothing in-exposures ∙ nothing-common _ _ none)
+      clear-at (no n) = other-exposure terminal n ∙ c .terminal-clear
 
 -- ---- a round
 
@@ -161,12 +163,12 @@ module _ (arcs : List Arc) (reach : ℕ) (from : Side) where
   -- arc k, as the code holds it
   module _ (k : ℕ) (s : Side) (changed cut : Bool) (a : Arc) (is : a ≡ arcAt arcs k) (r : Rounded arcs reach from k s changed cut) where
     -- it clears nothing
-    rounded-settled : (reachedAt s (arcAt arcs k .head) ≡ true → (b : ℕ) → bit (risksAt s (arcAt arcs k .tail)) b ≤ max (bit (arcAt arcs k .risks) b) (bit (risksAt s (arcAt arcs k .head)) b))
+    rounded-settled : (reachedAt s (arcAt arcs k .head) ≡ true → (b : ℕ) → exposed (exposureAt s (arcAt arcs k .tail)) b ≤ max (exposed (ofArc (arcAt arcs k)) b) (exposed (exposureAt s (arcAt arcs k .head)) b))
         → Rounded arcs reach from (k + 1) s changed cut
     rounded-settled f = record { clears = r .clears; settles = λ d e. below-more _ k (r .settles d e) f }
 
-    pub rounded-idle : risksOver s a ≡ risksAt s (a .tail) → Rounded arcs reach from (k + 1) s changed cut
-    rounded-idle e = rounded-settled (λ h b. omega (arith, rw (bit-and, bit-or) at (ap (λ (x : ℕ). bit x b) (rw is at e))))
+    pub rounded-idle : exposureOver s a ≡ exposureAt s (a .tail) → Rounded arcs reach from (k + 1) s changed cut
+    rounded-idle e = rounded-settled (λ h b. omega (arith, rw (exposed-common, exposed-joined) at (ap (λ (x : Exposure). exposed x b) (rw is at e))))
 
     pub rounded-unreached : reachedAt s (a .head) ≡ false → Rounded arcs reach from (k + 1) s changed cut
     rounded-unreached e = rounded-settled (λ h. absurd (false≢true (sym e ∙ (ap (λ (x : Arc). reachedAt s (x .head)) is ∙ h))))
@@ -184,7 +186,7 @@ module _ (arcs : List Arc) (reach : ℕ) (from : Side) where
 
 -- ---- the end of it
 
-module _ (arcs : List Arc) (terminal reach : ℕ) (plain : Side) (table : SideTable arcs terminal 0 plain) where
+module _ (arcs : List Arc) (terminal : ℕ) (plain : Side) (table : SideTable arcs terminal toNothing plain) where
   way-reached : {v : ℕ} {ks : List ℕ} → Way arcs v terminal ks → reachedAt plain v ≡ true
   way-reached {v} {ks} w = go (reachedAt plain v) refl
     where
@@ -192,30 +194,31 @@ module _ (arcs : List Arc) (terminal reach : ℕ) (plain : Side) (table : SideTa
       go true e = e
       go false e = absurd (table .none v e ks (way-free arcs terminal w))
 
-  module _ (s : Side) (c : Clearing arcs terminal reach plain s) where
-    settled-on-every : Settled arcs (length arcs) s → (b : ℕ) {v : ℕ} {ks : List ℕ} → Way arcs v terminal ks → bit (risksAt s v) b ≡ 1 → bit (risksOf arcs ks) b ≡ 1
-    unfolding risksOf
-    settled-on-every settled b (Way.there e) q =
-        absurd (omega (arith, q, bit-empty b, ap (λ (u : ℕ). bit (risksAt s u) b) e, ap (λ (x : ℕ). bit x b) (c .terminal-clear)))
-    settled-on-every settled b {v} (Way.over {k = k} {ks = ks} h t w) q =
-        rw bit-or (go (ℕ-discrete (bit (risksAt s (arcAt arcs k .head)) b) 1) (λ e. settled-on-every settled b w e))
-      where
-        left : bit (risksAt s (arcAt arcs k .tail)) b ≤ max (bit (arcAt arcs k .risks) b) (bit (risksAt s (arcAt arcs k .head)) b)
-        left = settled k h (c .same-reached (arcAt arcs k .head) ∙ way-reached w) b
+  settled-on-every : {reach : ℕ} (s : Side) → Clearing arcs terminal reach plain s → Settled arcs (length arcs) s → (b : ℕ) {v : ℕ} {ks : List ℕ} → Way arcs v terminal ks
+      → exposed (exposureAt s v) b ≡ 1 → exposed (exposureOf arcs ks) b ≡ 1
+  unfolding exposureOf
+  settled-on-every s c settled b (Way.there e) q =
+      absurd (omega (arith, q, exposed-nothing b, ap (λ (u : ℕ). exposed (exposureAt s u) b) e, ap (λ (x : Exposure). exposed x b) (c .terminal-clear)))
+  settled-on-every s c settled b {v} (Way.over {k = k} {ks = ks} h t w) q =
+      rw exposed-joined (go (ℕ-discrete (exposed (exposureAt s (arcAt arcs k .head)) b) 1) (λ e. settled-on-every s c settled b w e))
+    where
+      left : exposed (exposureAt s (arcAt arcs k .tail)) b ≤ max (exposed (ofArc (arcAt arcs k)) b) (exposed (exposureAt s (arcAt arcs k .head)) b)
+      left = settled k h (c .same-reached (arcAt arcs k .head) ∙ way-reached w) b
 
-        here : bit (risksAt s (arcAt arcs k .tail)) b ≡ 1
-        here = ap (λ (u : ℕ). bit (risksAt s u) b) t ∙ q
+      here : exposed (exposureAt s (arcAt arcs k .tail)) b ≡ 1
+      here = ap (λ (u : ℕ). exposed (exposureAt s u) b) t ∙ q
 
-        go : Dec (bit (risksAt s (arcAt arcs k .head)) b ≡ 1) → (bit (risksAt s (arcAt arcs k .head)) b ≡ 1 → bit (risksOf arcs ks) b ≡ 1) → max (bit (arcAt arcs k .risks) b) (bit (risksOf arcs ks) b) ≡ 1
-        go (yes e) f = omega (arith, f e, bit-le-one (arcAt arcs k .risks) b)
-        go (no n) f = omega (arith, left, here, bit-le-one (arcAt arcs k .risks) b, bit-le-one (risksAt s (arcAt arcs k .head)) b, bit-le-one (risksOf arcs ks) b)
+      go : Dec (exposed (exposureAt s (arcAt arcs k .head)) b ≡ 1) → (exposed (exposureAt s (arcAt arcs k .head)) b ≡ 1 → exposed (exposureOf arcs ks) b ≡ 1) → max (exposed (ofArc (arcAt arcs k)) b) (exposed (exposureOf arcs ks) b) ≡ 1
+      go (yes e) f = omega (arith, f e, exposed-le-one (ofArc (arcAt arcs k)) b)
+      go (no n) f = omega (arith, left, here, exposed-le-one (ofArc (arcAt arcs k)) b, exposed-le-one (exposureAt s (arcAt arcs k .head)) b, exposed-le-one (exposureOf arcs ks) b)
 
-    pub finished-settled : (source : ℕ) (sure : Bool) → (sure ≡ true → Settled arcs (length arcs) s) → Finished arcs terminal reach plain source s sure
-    finished-settled source sure f = record { clearing = c; on-every = λ e b q ks w. settled-on-every (f e) b w q }
+module _ (m : Mesh) (plain : Side) (table : SideTable (m .arcs) (m .terminal) toNothing plain) (s : Side) (c : Clearing (m .arcs) (m .terminal) (m .reach) plain s) where
+  pub finished-settled : (sure : Bool) → (sure ≡ true → Settled (m .arcs) (length (m .arcs)) s) → Finished m plain s sure
+  finished-settled sure f = record { clearing = c; on-every = λ e b q ks w. settled-on-every (m .arcs) (m .terminal) plain table s c (f e) b w q }
 
-    pub finished-clear : (source : ℕ) → risksAt s source ≡ 0 → Finished arcs terminal reach plain source s true
-    finished-clear source z =
-        record { clearing = c; on-every = λ e b q ks w. absurd (omega (arith, q, bit-empty b, ap (λ (x : ℕ). bit x b) z)) }
+  pub finished-clear : exposureAt s (m .source) ≡ toNothing → Finished m plain s true
+  finished-clear z =
+      record { clearing = c; on-every = λ e b q ks w. absurd (omega (arith, q, exposed-nothing b, ap (λ (x : Exposure). exposed x b) z)) }
 
-    pub finished-unsure : (source : ℕ) → Finished arcs terminal reach plain source s false
-    finished-unsure source = record { clearing = c; on-every = λ e. absurd (false≢true e) }
+  pub finished-unsure : Finished m plain s false
+  finished-unsure = record { clearing = c; on-every = λ e. absurd (false≢true e) }

@@ -1,76 +1,54 @@
--- What is left once risks are cleared or asked about: it holds every risk of every way, and of those decided no other; at the end it is `commonRisks`.
+-- What is left once risks are cleared or asked about: it holds every risk of every way, and of those decided no other; at the end it is `onEvery`.
 -- Assumes nothing.
-use mathlib.Core.Path.{_≡_, refl, sym, ap, _∙_}
-use mathlib.Core.List.{List, [], _∷_, List·Memᴰ·not-nil}
-use Prim.Native.Nat.{ℕ, zero, suc, _+_, _%_, _^_, _≤_, _<_}
-use native.Mathlib.Decide.{decLt}
-use native.Mathlib.Nat.{div-eq-of-lt, lt-of-lt-of-le}
+use mathlib.Core.Path.{_≡_, refl, _∙_}
+use Prim.Native.Nat.{ℕ, zero, suc, _+_, _≤_, _<_}
 use native.Mathlib.Omega.{arith}
-use lib.Bits.{and-le-r}
-use lib.Dec.{lit<}
-use lib.Pow.{pow-mono}
 use borrow.Author.Count.{below-more}
-use Rattle.laws.specs.Sets.{bit}
-use Rattle.laws.proofs.SetLaws.{bit-le-one, bits-ext}
-use Rattle.problem.specs.declared.Arc.{Arc}
-use Rattle.problem.specs.Routes.{Route, ranking}
-use Rattle.problem.specs.Pairs.{commonRisks}
+use Rattle.problem.specs.declared.Exposure.{Exposure}
+use Rattle.problem.specs.Table.{lastNode, mostShared}
+use Rattle.problem.specs.Exposures.{exposed, toAll}
+use Rattle.problem.specs.Routes.{Mesh, ranking}
+use Rattle.problem.specs.Pairs.{onEvery}
+use Rattle.problem.proofs.ExposureLaws.{exposed-le-one, exposed-all, Inside, inside-all-ext}
 use Rattle.problem.proofs.RankingLaws.{LowHeads}
-use Rattle.problem.proofs.PairLaws.{common-all}
-use Rattle.problem.proofs.WayLaws.{common-ways}
-use Rattle.floor.specs.Floor.{OnEvery, Narrowed, Asked}
-
--- ---- sets of 64 risks
-
-bit-above : (d s r : ℕ) → s < 2 ^ d → d ≤ r → bit s r ≡ 0
-unfolding bit
-bit-above d s r h l = ap (λ (x : ℕ). x % 2) (div-eq-of-lt (lt-of-lt-of-le h (pow-mono l)))
-
-common-below : (routes : List Route) → commonRisks routes < 2 ^ 64
-unfolding commonRisks
-common-below [] = lit< tt
-common-below (r ∷ routes) = omega (arith, and-le-r (r .risks) (commonRisks routes), common-below routes)
+use Rattle.problem.proofs.PairLaws.{every-inside-all}
+use Rattle.problem.proofs.WayLaws.{every-ways}
+use Rattle.floor.specs.Floor.{OnEveryWay, Narrowed, Asked}
 
 same-digit : (x y : ℕ) → x ≤ 1 → y ≤ 1 → (x ≡ 1 → y ≡ 1) → (y ≡ 1 → x ≡ 1) → x ≡ y
 same-digit zero zero h k f g = refl
 same-digit zero (suc y) h k f g = g (omega arith) ∙ omega arith
 same-digit (suc x) y h k f g = omega (arith, f (omega arith))
 
--- ---- what is left
-
-module _ (arcs : List Arc) (source terminal reach : ℕ) where
+module _ (m : Mesh) where
   -- once the risks below r are asked about
-  pub record Left (left r : ℕ) : Type 0 where
-    pub width : left < 2 ^ 64
-    pub kept : (b : ℕ) → b < 64 → OnEvery arcs source terminal reach b → bit left b ≡ 1
-    pub decided : (b : ℕ) → b < r → bit left b ≡ 1 → OnEvery arcs source terminal reach b
+  pub record Left (left : Exposure) (r : ℕ) : Type 0 where
+    pub within : Inside left toAll
+    pub kept : (b : ℕ) → b < mostShared → OnEveryWay m b → exposed left b ≡ 1
+    pub decided : (b : ℕ) → b < r → exposed left b ≡ 1 → OnEveryWay m b
 
-  -- all risks are in the first set
-  pub left-start : (first : ℕ) → Narrowed arcs source terminal reach 18446744073709551615 first → first < 2 ^ 64 → Left first 0
-  unfolding commonRisks
-  left-start first n w = record {
-    width = w;
-    kept = λ b h o. n .kept b o (common-all [] b h (λ r m. absurd (List·Memᴰ·not-nil m)));
-    decided = λ b h. absurd (omega arith);
-  }
+  -- at first, all that there is
+  pub left-start : (all first : Exposure) → all ≡ toAll → Narrowed m all first → Left first 0
+  left-start all first e n =
+      let from : Narrowed m toAll first = rw e at n in
+      record { within = from .fewer; kept = λ b h o. from .kept b o (exposed-all b h); decided = λ b h. absurd (omega arith) }
 
   -- where all of it is known to lie on every way, nothing is left to ask
-  pub left-sure : (left : ℕ) → Left left 0 → ((b : ℕ) → bit left b ≡ 1 → OnEvery arcs source terminal reach b) → Left left 64
-  left-sure left s f = record { width = s .width; kept = s .kept; decided = λ b h. f b }
+  pub left-sure : (left : Exposure) → Left left 0 → ((b : ℕ) → exposed left b ≡ 1 → OnEveryWay m b) → Left left mostShared
+  left-sure left s f = record { within = s .within; kept = s .kept; decided = λ b h. f b }
 
-  pub left-on : (left r after : ℕ) → Left left r → Asked arcs source terminal reach left r after → after < 2 ^ 64 → Left after (r + 1)
-  left-on left r after s a w = record {
-    width = w;
+  pub left-on : (left : Exposure) (r : ℕ) (after : Exposure) → Left left r → Asked m left r after → Left after (r + 1)
+  left-on left r after s a = record {
+    within = λ b. omega (arith, a .narrowing .fewer b, s .within b);
     kept = λ b h o. a .narrowing .kept b o (s .kept b h o);
-    decided = below-more (λ (b : ℕ). bit after b ≡ 1 → OnEvery arcs source terminal reach b) r
-        (λ b h e. s .decided b h (omega (arith, e, a .narrowing .fewer b, bit-le-one left b))) (a .decided);
+    decided = below-more (λ (b : ℕ). exposed after b ≡ 1 → OnEveryWay m b) r
+        (λ b h e. s .decided b h (omega (arith, e, a .narrowing .fewer b, exposed-le-one left b))) (a .decided);
   }
 
-  pub left-end : LowHeads arcs → source < 32 → (left r : ℕ) → r ≡ 64 → Left left r → left ≡ commonRisks (ranking arcs source terminal reach)
-  left-end low node left r e s = bits-ext left (commonRisks (ranking arcs source terminal reach)) (λ b. go b (decLt b 64))
+  pub left-end : LowHeads (m .arcs) → m .source ≤ lastNode → (left : Exposure) (r : ℕ) → r ≡ mostShared → Left left r → left ≡ onEvery (ranking m)
+  left-end low node left r e s = inside-all-ext left (onEvery (ranking m)) (s .within) (every-inside-all (ranking m)) same
     where
-      go : (b : ℕ) → Dec (b < 64) → bit left b ≡ bit (commonRisks (ranking arcs source terminal reach)) b
-      go b (yes h) =
-          let c = common-ways arcs source terminal reach low node b h in
-          same-digit _ _ (bit-le-one left b) (bit-le-one _ b) (λ q. c .1 (s .decided b (omega arith) q)) (λ q. s .kept b h (c .0 q))
-      go b (no h) = bit-above 64 left b (s .width) (omega arith) ∙ sym (bit-above 64 _ b (common-below (ranking arcs source terminal reach)) (omega arith))
+      same : (b : ℕ) → b < mostShared → exposed left b ≡ exposed (onEvery (ranking m)) b
+      same b h =
+          let c = every-ways m low node b h in
+          same-digit _ _ (exposed-le-one left b) (exposed-le-one _ b) (λ q. c .1 (s .decided b (omega arith) q)) (λ q. s .kept b h (c .0 q))

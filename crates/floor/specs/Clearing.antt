@@ -1,42 +1,42 @@
--- Clearing: for each node, the risks that no way found so far avoids; the other risks are cleared. Assumes nothing.
+-- Clearing: for each node, what no way found so far avoids; the other risks are cleared. Assumes nothing.
 use mathlib.Core.Path.{_≡_}
 use mathlib.Core.Bool.{Bool, true, false}
 use mathlib.Core.List.{List}
 use Prim.Native.Nat.{ℕ, _≤_, _<_, max}
 use lib.ListN.{length}
-use Rattle.laws.specs.Sets.{bit}
 use Rattle.problem.specs.declared.Arc.{Arc}
-use Rattle.problem.specs.Routes.{arcAt, metresOf, risksOf, Way}
+use Rattle.problem.specs.Exposures.{exposed, toNothing, ofArc}
+use Rattle.problem.specs.Routes.{Mesh, arcAt, metresOf, exposureOf, Way}
 use Rattle.side.specs.declared.Side.{Side}
-use Rattle.side.specs.Side.{reachedAt, metresAt, risksAt}
+use Rattle.side.specs.Side.{reachedAt, metresAt, exposureAt}
 
 module _ (arcs : List Arc) (terminal : ℕ) where
   -- a way from v that is free of risk b and no longer than the given length
   pub record Avoids (v b metres : ℕ) : Type 0 where
     pub list : List ℕ
     pub way : Way arcs v terminal list
-    pub free : bit (risksOf arcs list) b ≡ 0
+    pub free : exposed (exposureOf arcs list) b ≡ 0
     pub short : metresOf arcs list ≤ metres
 
-  -- begun with the entries of `plain`: a risk that a reached node's entry does not have can be avoided from there; lengths that have grown are within reach
+  -- begun with the entries of `plain`: a risk that a reached node is not exposed to can be avoided from there; lengths that have grown are within reach
   pub record Clearing (reach : ℕ) (plain s : Side) : Type 0 where
     pub entries-size : length (s .entries) ≡ 32
-    pub risks-size : length (s .risks) ≡ 32
+    pub exposures-size : length (s .exposures) ≡ 32
     pub same-reached : (v : ℕ) → reachedAt s v ≡ reachedAt plain v
-    pub avoids : (v : ℕ) → reachedAt s v ≡ true → (b : ℕ) → bit (risksAt s v) b ≡ 0 → Avoids v b (metresAt s v)
+    pub avoids : (v : ℕ) → reachedAt s v ≡ true → (b : ℕ) → exposed (exposureAt s v) b ≡ 0 → Avoids v b (metresAt s v)
     pub within : (v : ℕ) → metresAt s v ≤ max reach (metresAt plain v)
-    pub terminal-clear : risksAt s terminal ≡ 0
+    pub terminal-clear : exposureAt s terminal ≡ toNothing
 
-  -- the end of it: where that is sure, every risk that the source's entry has lies on every way, of whatever length
-  pub record Finished (reach : ℕ) (plain : Side) (source : ℕ) (s : Side) (sure : Bool) : Type 0 where
-    pub clearing : Clearing reach plain s
-    pub on-every : sure ≡ true → (b : ℕ) → bit (risksAt s source) b ≡ 1 → (ks : List ℕ) → Way arcs source terminal ks → bit (risksOf arcs ks) b ≡ 1
+-- the end of it: where that is sure, every risk that the source is exposed to lies on every way, of whatever length
+pub record Finished (m : Mesh) (plain s : Side) (sure : Bool) : Type 0 where
+  pub clearing : Clearing (m .arcs) (m .terminal) (m .reach) plain s
+  pub on-every : sure ≡ true → (b : ℕ) → exposed (exposureAt s (m .source)) b ≡ 1 → (ks : List ℕ) → Way (m .arcs) (m .source) (m .terminal) ks → exposed (exposureOf (m .arcs) ks) b ≡ 1
 
 module _ (arcs : List Arc) where
   -- over none of the first n arcs a tail can avoid more
   abbrev pub Settled : ℕ → Side → Type 0
   Settled n s = (k : ℕ) → k < n → reachedAt s (arcAt arcs k .head) ≡ true → (b : ℕ)
-      → bit (risksAt s (arcAt arcs k .tail)) b ≤ max (bit (arcAt arcs k .risks) b) (bit (risksAt s (arcAt arcs k .head)) b)
+      → exposed (exposureAt s (arcAt arcs k .tail)) b ≤ max (exposed (ofArc (arcAt arcs k)) b) (exposed (exposureAt s (arcAt arcs k .head)) b)
 
   -- what a round leaves that has gone over the first n arcs
   pub record Rounded (reach : ℕ) (from : Side) (n : ℕ) (s : Side) (changed cut : Bool) : Type 0 where

@@ -1,34 +1,36 @@
-// The risks that lie on every route, from which the floor is counted (01, Routes and their ranking).
-use side::Entry;
+// What lies on every route, from which the floor is counted (01, Routes and their ranking).
+use problem::Exposure;
+use problem::Request;
+use side::Distance;
 use side::Side;
 ghost use mathlib.Core.Path.{_≡_};
 ghost use mathlib.Core.Bool.{true};
-ghost use Prim.Native.Nat.{_+_, _<_, max};
+ghost use Prim.Native.Nat.{_+_, _≤_, _<_, max};
 ghost use lib.ListN.{length};
-ghost use Rattle.problem.specs.Table.{arcsOf, allSound};
+ghost use Rattle.problem.specs.Table.{lastNode, arcsOf, allSound, mostShared};
+ghost use Rattle.problem.specs.Exposures.{toNothing};
 ghost use Rattle.problem.specs.Routes.{ranking};
-ghost use Rattle.problem.specs.Pairs.{commonRisks};
+ghost use Rattle.problem.specs.Pairs.{onEvery};
+ghost use Rattle.problem.specs.Reply.{meshOf, Checked};
 ghost use Rattle.side.specs.Side.{SideTable};
 ghost use Rattle.floor.specs.Clearing.{Rounded, Finished};
 ghost use Rattle.floor.specs.Floor.{narrowed, Asked};
 
-const RISK_WIDTH: u8 = 64;
-
-const ALL_RISKS: u64 = 18446744073709551615;
+const MOST_SHARED: u8 = problem::MOST_SHARED as u8;
 
 // A way without loops has at most 31 arcs, so that 31 rounds clear what can be cleared and one more clears nothing. No promise rests on it: the
 // bound only makes it plain that the rounds end.
 const MOST_ROUNDS: u8 = 32;
 
-// After a round of clearing. A node's entry has the risks that no way found from it avoids; each other risk is avoided by one that is no longer
-// than the entry says. Whether the round has cleared a risk, and whether the reach has kept an arc from clearing one.
+// After a round of clearing. A node's exposure is what no way found from it avoids; each other risk is avoided by one that is no longer
+// than the node's entry says. Whether the round has cleared a risk, and whether the reach has kept an arc from clearing one.
 struct Cleared {
     side: Side,
     changed: bool,
     cut: bool,
 }
 
-// After the last round: whether the risks that the source's entry still has are sure to lie on every way.
+// After the last round: whether what the source is still exposed to is sure to lie on every way.
 struct Known {
     side: Side,
     sure: bool,
@@ -42,25 +44,25 @@ fn sum(a: u32, b: u32) -> u64
 }
 
 // An entry that says at least so many metres.
-fn lengthened(e: Entry, metres: u32) -> Entry
+fn lengthened(e: Distance, metres: u32) -> Distance
     ensures { λ o. ⌜ o ≡ record { metres = max (e .metres) metres; reached = e .reached } ⌝ }
 {
     if metres <= e.metres {
         return e;
     }
-    Entry {
+    Distance {
         metres: metres,
         reached: e.reached,
     }
 }
 
-// Goes over every arc once, in order: the tail can avoid what the head can, but for the arc's own risks. All risks are cleared side by side, so
+// Goes over every arc once, in order: the tail can avoid what the head can, but for what the arc is exposed to. All risks are cleared side by side, so
 // that a few rounds do what would take a side table for each risk.
 fn round(table: &[u8], reach: u32, from: Side) -> Cleared
     requires { ⌜ allSound (arcsOf (now table)) ≡ true ⌝ }
     ensures { λ o. ⌜ Rounded (arcsOf (now (table .entry))) reach from (length (arcsOf (now (table .entry)))) (o .side) (o .changed) (o .cut) ⌝ }
 {
-    let n = table.len() / 16;
+    let n = table.len() / problem::ARC_BYTES;
     let mut s = from;
     let mut changed = false;
     let mut cut = false;
@@ -70,16 +72,19 @@ fn round(table: &[u8], reach: u32, from: Side) -> Cleared
         k = k + 1;
         let tail = a.tail as usize;
         let head = a.head as usize;
-        let old = s.risks[tail];
-        let new = old & (a.risks | s.risks[head]);
-        if new != old {
+        let old = s.exposures[tail];
+        let own = exposure::of_arc(a);
+        let on = s.exposures[head];
+        let over = exposure::joined(own, on);
+        let new = exposure::common(old, over);
+        if !exposure::is_same(new, old) {
             let from = s.entries[tail];
             let to = s.entries[head];
             if to.reached {
                 let metres = sum(to.metres, a.metres);
                 if metres <= reach as u64 {
                     s.entries[tail] = lengthened(from, metres as u32);
-                    s.risks[tail] = new;
+                    s.exposures[tail] = new;
                     changed = true;
                 } else {
                     cut = true;
@@ -94,20 +99,20 @@ fn round(table: &[u8], reach: u32, from: Side) -> Cleared
     }
 }
 
-// Clears risks round by round, until a round clears none or the source has none left. The side table with no risk banned is where it begins: its
-// ways avoid all but their own risks. From the terminal, no arc at all avoids every risk.
-fn clear(table: &[u8], source: u8, terminal: u8, reach: u32, plain: Side) -> Known
-    requires { ⌜ (source < 32) × (terminal < 32) ⌝ }
-    requires { ⌜ allSound (arcsOf (now table)) ≡ true ⌝ }
-    requires { ⌜ SideTable (arcsOf (now table)) terminal 0 plain ⌝ }
-    ensures { λ o. ⌜ Finished (arcsOf (now (table .entry))) terminal reach plain source (o .side) (o .sure) ⌝ }
+// Clears risks round by round, until a round clears none or the source has none left. The side table with nothing banned is where it begins: its
+// ways avoid all but what they are exposed to. From the terminal, no arc at all avoids every risk.
+fn clear(table: &[u8], q: Request, plain: Side) -> Known
+    requires { ⌜ Checked (now table) q ⌝ }
+    requires { ⌜ SideTable (arcsOf (now table)) (q .terminal) toNothing plain ⌝ }
+    ensures { λ o. ⌜ Finished (meshOf (now (table .entry)) q) plain (o .side) (o .sure) ⌝ }
 {
+    let nothing = exposure::nothing();
     let mut s = plain;
-    s.risks[terminal as usize] = 0;
+    s.exposures[q.terminal as usize] = nothing;
     let mut rounds: u8 = 0;
     while rounds < MOST_ROUNDS {
         rounds = rounds + 1;
-        let c = round(table, reach, s);
+        let c = round(table, q.reach, s);
         s = c.side;
         if !c.changed {
             return Known {
@@ -115,7 +120,7 @@ fn clear(table: &[u8], source: u8, terminal: u8, reach: u32, plain: Side) -> Kno
                 sure: !c.cut,
             };
         }
-        if s.risks[source as usize] == 0 {
+        if exposure::is_same(s.exposures[q.source as usize], nothing) {
             return Known {
                 side: s,
                 sure: true,
@@ -128,51 +133,52 @@ fn clear(table: &[u8], source: u8, terminal: u8, reach: u32, plain: Side) -> Kno
     }
 }
 
-// Only the risks of the source's entry, where its length is within reach; else the whole set.
-fn narrow(left: u64, s: Side, source: u8, reach: u32) -> u64
-    requires { ⌜ source < 32 ⌝ }
-    ensures { λ o. ⌜ o ≡ narrowed left s source reach ⌝ }
+// Only what the source is exposed to as well, where its entry's length is within reach; else all of it.
+fn narrow(left: Exposure, s: Side, q: Request) -> Exposure
+    requires { ⌜ q .source ≤ lastNode ⌝ }
+    ensures { λ o. ⌜ o ≡ narrowed left s (q .source) (q .reach) ⌝ }
 {
-    let at = source as usize;
+    let at = q.source as usize;
     let entry = s.entries[at];
     if !entry.reached {
         return left;
     }
-    if reach < entry.metres {
+    if q.reach < entry.metres {
         return left;
     }
-    left & s.risks[at]
+    let there = s.exposures[at];
+    exposure::common(left, there)
 }
 
-// What is left of a set once risk r of it is asked about: a way within reach that is free of r clears r, and all that it does not have.
-fn ask(table: &[u8], source: u8, terminal: u8, reach: u32, left: u64, r: u8) -> u64
-    requires { ⌜ (source < 32) × (terminal < 32) × (r < 64) ⌝ }
-    requires { ⌜ allSound (arcsOf (now table)) ≡ true ⌝ }
-    ensures { λ o. ⌜ Asked (arcsOf (now (table .entry))) source terminal reach left r o ⌝ }
+// What is left once risk r of it is asked about: a way within reach that is free of r clears r, and all that it is not exposed to.
+fn ask(table: &[u8], q: Request, left: Exposure, r: u8) -> Exposure
+    requires { ⌜ r < mostShared ⌝ }
+    requires { ⌜ Checked (now table) q ⌝ }
+    ensures { λ o. ⌜ Asked (meshOf (now (table .entry)) q) left r o ⌝ }
 {
-    if !sets::has(left, r) {
+    if !exposure::is_exposed(left, r) {
         return left;
     }
-    let s = side::side_table(table, terminal, sets::with(0, r));
-    narrow(left, s, source, reach)
+    let only = exposure::one(r);
+    let s = side::side_table(table, q.terminal as u8, only);
+    narrow(left, s, q)
 }
 
-// The risks that lie on every route; all risks where there is no route. `plain` is the side table with no risk banned. Clearing mostly says which
-// they are; where the reach has kept it from being sure, the risks that it leaves are asked about one by one.
-pub fn common_risks(table: &[u8], source: u8, terminal: u8, reach: u32, plain: Side) -> u64
-    requires { ⌜ (source < 32) × (terminal < 32) ⌝ }
-    requires { ⌜ allSound (arcsOf (now table)) ≡ true ⌝ }
-    requires { ⌜ SideTable (arcsOf (now table)) terminal 0 plain ⌝ }
-    ensures { λ o. ⌜ o ≡ commonRisks (ranking (arcsOf (now (table .entry))) source terminal reach) ⌝ }
+// What lies on every route; all that there is where there is no route. `side` is the side table with nothing banned. Clearing mostly says what
+// that is; where the reach has kept it from being sure, what it leaves is asked about risk by risk.
+pub fn common_exposure(table: &[u8], q: Request, side: Side) -> Exposure
+    requires { ⌜ Checked (now table) q ⌝ }
+    requires { ⌜ SideTable (arcsOf (now table)) (q .terminal) toNothing side ⌝ }
+    ensures { λ o. ⌜ o ≡ onEvery (ranking (meshOf (now (table .entry)) q)) ⌝ }
 {
-    let known = clear(table, source, terminal, reach, plain);
-    let mut left = narrow(ALL_RISKS, known.side, source, reach);
+    let known = clear(table, q, side);
+    let mut left = narrow(exposure::all(), known.side, q);
     if known.sure {
         return left;
     }
     let mut r: u8 = 0;
-    while r < RISK_WIDTH {
-        left = ask(table, source, terminal, reach, left, r);
+    while r < MOST_SHARED {
+        left = ask(table, q, left, r);
         r = r + 1;
     }
     left

@@ -1,8 +1,8 @@
 // The judgement of pairs, and of the standbys of one main, as one number.
 ghost use mathlib.Core.Path.{_≡_};
-ghost use Prim.Native.Nat.{_+_, _*_, _-_, _%_, _≤_, _<_, _^_};
+ghost use Prim.Native.Nat.{_-_, _≤_, _<_, _^_};
 ghost use Rattle.problem.specs.Table.{mostReach};
-ghost use Rattle.keys.specs.Keys.{standbyKey, boundFor, pairOf};
+ghost use Rattle.keys.specs.Keys.{standbyKey, OfStandby, sharedOf, totalOf, mainOf, sharedRoom, boundFor, pairOf};
 
 const STANDBY_UNIT: u64 = 4294967296;
 
@@ -10,9 +10,31 @@ const TOTAL_UNIT: u64 = 67108864;
 
 const TOTAL_LIMIT: u64 = 134217728;
 
+// More than the key of any pair.
+pub const NO_KEY: u64 = (problem::MOST_SHARED + 1) * TOTAL_LIMIT * TOTAL_UNIT;
+
+// What the key of a pair says: the shared count, the total, the main's metres.
+pub fn shared_of(key: u64) -> u64
+    ensures { λ r. ⌜ (r ≡ sharedOf key) × (r ≤ sharedRoom) ⌝ }
+{
+    key / TOTAL_UNIT / TOTAL_LIMIT
+}
+
+pub fn total_of(key: u64) -> u64
+    ensures { λ r. ⌜ (r ≡ totalOf key) × (r < 2 ^ 27) ⌝ }
+{
+    key / TOTAL_UNIT % TOTAL_LIMIT
+}
+
+pub fn main_of(key: u64) -> u64
+    ensures { λ r. ⌜ r ≡ mainOf key ⌝ }
+{
+    key % TOTAL_UNIT
+}
+
 // The key of a standby.
 pub fn standby_key(shared: u64, metres: u64) -> u64
-    requires { ⌜ (shared ≤ 2048) × (metres < 2 ^ 34) ⌝ }
+    requires { ⌜ (shared ≤ sharedRoom) × (metres < 2 ^ 34) ⌝ }
     ensures { λ r. ⌜ r ≡ standbyKey shared metres ⌝ }
 {
     shared * STANDBY_UNIT + metres
@@ -20,7 +42,7 @@ pub fn standby_key(shared: u64, metres: u64) -> u64
 
 // The key of a standby as long as what is left of `top` metres.
 fn key_below(shared: u64, top: u64, metres: u64) -> u64
-    requires { ⌜ (shared ≤ 2048) × (top < 2 ^ 34) ⌝ }
+    requires { ⌜ (shared ≤ sharedRoom) × (top < 2 ^ 34) ⌝ }
     ensures { λ r. ⌜ r ≡ standbyKey shared (top - metres) ⌝ }
 {
     if top < metres {
@@ -33,10 +55,9 @@ fn key_below(shared: u64, top: u64, metres: u64) -> u64
 pub fn bound_for(best: u64, metres: u64) -> u64
     ensures { λ r. ⌜ r ≡ boundFor best metres ⌝ }
 {
-    let high = best / TOTAL_UNIT;
-    let shared = high / TOTAL_LIMIT;
-    let total = high % TOTAL_LIMIT;
-    if metres < best % TOTAL_UNIT {
+    let shared = shared_of(best);
+    let total = total_of(best);
+    if metres < main_of(best) {
         return key_below(shared, total + 1, metres);
     }
     key_below(shared, total, metres)
@@ -44,7 +65,7 @@ pub fn bound_for(best: u64, metres: u64) -> u64
 
 // The key of the pair that a main of so many metres makes with a standby of that key.
 pub fn pair_of(metres: u64, key: u64) -> u64
-    requires { ⌜ (metres ≤ mostReach) × (key < 65 * 2 ^ 32) × (key % 2 ^ 32 ≤ mostReach) ⌝ }
+    requires { ⌜ (metres ≤ mostReach) × OfStandby key ⌝ }
     ensures { λ r. ⌜ r ≡ pairOf metres key ⌝ }
 {
     let shared = key / STANDBY_UNIT;

@@ -93,6 +93,19 @@ module _ {A : Type 0} where
       go false f ih = let p = ih (rw (f, keep) at m) in (List·Memᴰ·tail (p .0), p .1)
 
   -- where none passes, none is kept
+  pub keep-append : (test : A → Bool) (l r : List A) → keep test (l ++ r) ≡ keep test l ++ keep test r
+  unfolding keep
+  keep-append test [] r = refl
+  keep-append test (a ∷ l) r = go (test a) refl (keep-append test l r)
+    where
+      go : (c : Bool) → test a ≡ c → keep test (l ++ r) ≡ keep test l ++ keep test r → keep test (a ∷ (l ++ r)) ≡ keep test (a ∷ l) ++ keep test r
+      go true e ih = rw (e, keep) (ap (λ (z : List A). a ∷ z) ih)
+      go false e ih = rw (e, keep) ih
+
+  pub keep-first : (test : A → Bool) (a : A) (l : List A) → test a ≡ true → keep test (a ∷ l) ≡ a ∷ keep test l
+  unfolding keep
+  keep-first test a l e = rw (e, keep)
+
   pub keep-none : (test : A → Bool) (l : List A) → ((x : A) → List·Memᴰ x l → test x ≡ false) → keep test l ≡ []
   unfolding keep
   keep-none test [] f = refl

@@ -8,7 +8,7 @@ use lib.Arith.{lt-one}
 use lib.Bits.{bitAnd, bitOr, and-step, or-step, and-shr, or-shr}
 use lib.Count.{onesIn, ones, ones-step}
 use lib.ListN.{length}
-use lib.Pow.{pow-mono}
+use lib.Pow.{pow-mono, pow-pos}
 use lib.Dec.{eqb, eqb·zero-suc, eqb·suc-zero, eqb·suc-suc, lit<}
 use borrow.Author.Tests.{eqb-true, eqb-false, ne-eqb}
 use Rattle.laws.specs.Choosing.{keep}
@@ -82,6 +82,14 @@ bits-same (suc d) x y h b f =
 pub bits-ext : (x y : ℕ) → ((r : ℕ) → bit x r ≡ bit y r) → x ≡ y
 bits-ext x y f =
     bits-same (x + y) x y (lt-of-lt-of-le (below-pow x) (pow-mono (omega arith))) (lt-of-lt-of-le (below-pow y) (pow-mono (omega arith))) f
+
+-- all of the lowest d bits
+pub bit-full : (d r : ℕ) → r < d → bit (2 ^ d - 1) r ≡ 1
+bit-full zero r h = absurd (omega arith)
+bit-full (suc d) zero h = rw (bit-zero, pow-suc) (omega (arith, pow-pos d))
+bit-full (suc d) (suc r) h =
+    let half : (2 ^ suc d - 1) / 2 ≡ 2 ^ d - 1 = rw pow-suc (omega arith) in
+    rw (bit-suc, half) (bit-full d r (omega arith))
 
 pub or-assoc : (x y z : ℕ) → bitOr (bitOr x y) z ≡ bitOr x (bitOr y z)
 or-assoc x y z = bits-ext _ _ (λ r. simp bit-or (omega arith))

@@ -1,43 +1,46 @@
 -- A table is laid out once its arcs, its nodes, its doors and its request are written one after the other: each later writing keeps the words of those before it,
 -- and the words of an arc say that arc. Assumes nothing.
-use Prim.Native.Nat.{ℕ, _+_, _*_, _≤_, _<_, _^_}
+use Prim.Native.Nat.{ℕ, _+_, _*_, _/_, _%_, _≤_, _<_, _^_}
 use mathlib.Core.Bool.{Bool, true, false}
 use mathlib.Core.List.{List, []}
-use mathlib.Core.Path.{_≡_, refl, sym, ap, _∙_}
+use mathlib.Core.Path.{_≡_, refl, sym, ap, _∙_, subst}
 use native.Mathlib.Decide.{ℕ-discrete}
 use native.Mathlib.Omega.{arith}
-use lib.Bits.{and-zero-r}
 use lib.ListN.{length, getD, set, length-set}
 use lib.Seq.{getD-set-same, getD-set-other, ext-getD}
 use Rattle.problem.specs.declared.Arc.{Arc}
-use Rattle.problem.specs.Table.{lastNode, mostReach, allSound}
-use Rattle.problem.specs.Routes.{arcAt, metresOf, risksOf, Way}
-use Rattle.problem.proofs.TableLaws.{sound-at}
+use Rattle.problem.specs.declared.Request.{Request}
+use Rattle.problem.specs.Table.{mostInTable, lastNode, arcsOf}
+use Rattle.problem.specs.Exposures.{toNothing, ofArc}
+use Rattle.problem.specs.Routes.{Mesh, arcAt, metresOf, exposureOf, Way}
+use Rattle.problem.specs.Reply.{meshOf, Checked}
+use Rattle.problem.proofs.ExposureLaws.{disjoint-nothing}
+use Rattle.problem.proofs.TableLaws.{arcs-length, sound-at}
 use Rattle.side.specs.declared.Side.{Side}
 use Rattle.side.specs.Side.{reachedAt, metresAt, SideTable}
 use Rattle.chain.specs.Chain.{Chain}
-use Rattle.net.specs.Net.{metresFrom, headsFrom, nextFrom, tailsFrom, firstFrom, lowerFrom, arcCountAt, doorCountAt, doorsFrom, netSize, wordAt, arcsIn, DoorWith, Chained}
+use Rattle.net.specs.Net.{metresFrom, headsFrom, nextFrom, restFrom, firstFrom, lowerFrom, arcCountAt, doorCountAt, doorsFrom, netSize, wordAt, arcsIn, meshIn, exposedTo, DoorWith, Chained}
 use Rattle.net.proofs.NetLaws.{arcs-count, arc-is}
-use Rattle.layout.specs.Spread.{Spread, Columns}
-use Rattle.layout.specs.Layout.{arcColumn, nodeColumn, requestWords, lowerOf, Doors, LaidOut}
+use Rattle.layout.specs.Spread.{Spread}
+use Rattle.layout.specs.Layout.{arcColumn, ArcsLaid, nodeColumn, NodesLaid, requestWords, lowerOf, Doors, DoorsLaid, LaidOut}
 
 -- ---- lower bounds
 
 abbrev lowerAt : Side → ℕ → ℕ
 lowerAt side v = lowerOf (reachedAt side v) (metresAt side v)
 
-module _ {arcs : List Arc} {terminal : ℕ} {side : Side} (table : SideTable arcs terminal 0 side) where
+module _ {arcs : List Arc} {terminal : ℕ} {side : Side} (table : SideTable arcs terminal toNothing side) where
   lower-reached : (v : ℕ) → reachedAt side v ≡ true → lowerAt side v ≡ metresAt side v
   unfolding lowerOf
   lower-reached v e = rw e
 
-  -- with no risk banned every way is free
+  -- with nothing banned every way is free
   lower-least : (v : ℕ) {ks : List ℕ} → Way arcs v terminal ks → lowerAt side v ≤ metresOf arcs ks
   lower-least v {ks} w = go (reachedAt side v) refl
     where
       go : (b : Bool) → reachedAt side v ≡ b → lowerAt side v ≤ metresOf arcs ks
-      go true e = rw (lower-reached v e) (table .least v ks (record { way = w; free = and-zero-r (risksOf arcs ks) }))
-      go false e = absurd (table .none v e ks (record { way = w; free = and-zero-r (risksOf arcs ks) }))
+      go true e = rw (lower-reached v e) (table .least v ks (record { way = w; free = disjoint-nothing (exposureOf arcs ks) }))
+      go false e = absurd (table .none v e ks (record { way = w; free = disjoint-nothing (exposureOf arcs ks) }))
 
   lower-low : (v : ℕ) → lowerAt side v < 2 ^ 32
   unfolding lowerOf
@@ -63,19 +66,23 @@ module _ {n : ℕ} {arcs : List Arc} {terminal count : ℕ} {before after : List
   }
 
   -- one more door, written behind the others
-  pub doors-more : {risks : ℕ} → risks ≡ arcAt arcs n .risks → doorsFrom + count < length before → Doors (n + 1) arcs terminal (count + 1) before (set after (doorsFrom + count) risks)
+  pub doors-more : {risks : ℕ} → risks ≡ ofArc (arcAt arcs n) .risks → doorsFrom + count < length before → Doors (n + 1) arcs terminal (count + 1) before (set after (doorsFrom + count) risks)
   doors-more {risks} r inside = record {
     size = simp length-set (d .size);
     few = omega (arith, d .few);
     here = λ k h e. elim (ℕ-discrete k n) [
       | yes q ↦
-          record { place = count; inside = omega arith; is = getD-set-same after (doorsFrom + count) risks 0 (omega (arith, d .size)) ∙ r ∙ ap (λ (x : ℕ). arcAt arcs x .risks) (sym q) }
+          record {
+            place = count;
+            inside = omega arith;
+            is = ap exposedTo (getD-set-same after (doorsFrom + count) risks 0 (omega (arith, d .size)) ∙ r) ∙ ap (λ (x : ℕ). ofArc (arcAt arcs x)) (sym q);
+          }
       | no m ↦
           let w = d .here k (omega arith) e in
           record {
             place = w .place;
             inside = omega (arith, w .inside);
-            is = getD-set-other after (doorsFrom + count) (doorsFrom + w .place) risks 0 (λ q. omega (arith, w .inside)) ∙ w .is;
+            is = ap exposedTo (getD-set-other after (doorsFrom + count) (doorsFrom + w .place) risks 0 (λ q. omega (arith, w .inside))) ∙ w .is;
           }
     ];
     elsewhere = λ i h. getD-set-other after (doorsFrom + count) i risks 0 (λ q. omega arith) ∙ d .elsewhere i h;
@@ -83,23 +90,33 @@ module _ {n : ℕ} {arcs : List Arc} {terminal count : ℕ} {before after : List
 
 -- ---- all words
 
-fields-say : (a : Arc) {tail head metres risks : ℕ} → tail ≡ a .tail → head ≡ a .head → a .spare ≡ 0 → metres ≡ a .metres → risks ≡ a .risks
-    → record { tail = tail; head = head; spare = 0; metres = metres; risks = risks } ≡ a
-fields-say a t h s m r = rw (t, h, ← s, m, r)
+fields-say : (a : Arc) {rest head metres risks : ℕ} → a .tail ≤ lastNode → rest ≡ a .tail + 256 * a .spare → head ≡ a .head → metres ≡ a .metres → risks ≡ a .risks
+    → record { tail = rest % 256; head = head; spare = rest / 256; metres = metres; risks = risks } ≡ a
+fields-say a {rest} low e h m r =
+    let t : rest % 256 ≡ a .tail = omega arith in
+    let s : rest / 256 ≡ a .spare = omega arith in
+    rw (t, s, h, m, r)
 
-module _ {arcs : List Arc} {source terminal reach : ℕ} {side : Side} {doors : ℕ} {chain empty with-arcs with-nodes with-doors net : List ℕ}
-    (few : length arcs ≤ 128) (sound : allSound arcs ≡ true)
-    (source-node : source ≤ lastNode) (terminal-node : terminal ≤ lastNode) (ends-differ : source ≡ terminal → ⊥) (reach-range : reach ≤ mostReach)
-    (table : SideTable arcs terminal 0 side) (chained : Chain arcs chain) (size : length empty ≡ netSize)
-    (of-arcs : Columns (length arcs) (arcColumn arcs chain) 0 metresFrom empty with-arcs)
-    (of-nodes : Columns 32 (nodeColumn chain side) firstFrom 32 with-arcs with-nodes)
-    (of-doors : Doors (length arcs) arcs terminal doors with-nodes with-doors)
-    (of-request : Spread 5 (requestWords (length arcs) terminal reach source doors) arcCountAt 1 with-doors net) where
+module _ {table : List ℕ} {q : Request} {side : Side} {doors : ℕ} {chain empty with-arcs with-nodes with-doors net : List ℕ}
+    (checked : Checked table q) (sides : SideTable (arcsOf table) (q .terminal) toNothing side) (chained : Chain (arcsOf table) chain) (size : length empty ≡ netSize)
+    (of-arcs : ArcsLaid (arcsOf table) chain empty with-arcs)
+    (of-nodes : NodesLaid chain side with-arcs with-nodes)
+    (of-doors : DoorsLaid (arcsOf table) (q .terminal) doors with-nodes with-doors)
+    (of-request : Spread 5 (requestWords (meshOf table q) doors) arcCountAt 1 with-doors net) where
+  abbrev arcs : List Arc
+  arcs = arcsOf table
+
+  abbrev terminal : ℕ
+  terminal = q .terminal
+
+  few : length arcs ≤ mostInTable
+  few = omega (arith, arcs-length table, checked .few-bytes)
+
   arc-word : (i k j : ℕ) → i ≡ 0 + k + metresFrom * j → k < length arcs → j < 5 → wordAt net i ≡ getD (arcColumn arcs chain k) j 0
   arc-word i k j e h l =
-      of-request .elsewhere i (λ x m q. omega arith)
-      ∙ of-doors .elsewhere i (omega arith)
-      ∙ of-nodes .elsewhere i (λ v x m o q. omega arith)
+      of-request .elsewhere i (λ x m q. omega (arith, few))
+      ∙ of-doors .elsewhere i (omega (arith, few))
+      ∙ of-nodes .elsewhere i (λ v x m o q. omega (arith, few))
       ∙ rw e (of-arcs .here k j h l)
 
   node-word : (i v j : ℕ) → i ≡ firstFrom + v + 32 * j → v ≤ lastNode → j < 2 → wordAt net i ≡ getD (nodeColumn chain side v) j 0
@@ -109,10 +126,10 @@ module _ {arcs : List Arc} {source terminal reach : ℕ} {side : Side} {doors : 
   doors-count : wordAt net doorCountAt ≡ doors
   doors-count = of-request .here 4 (omega arith)
 
-  door-word : (k : ℕ) → k < length arcs → arcAt arcs k .head ≡ terminal → DoorWith (arcAt arcs k .risks) (wordAt net doorCountAt) net
+  door-word : (k : ℕ) → k < length arcs → arcAt arcs k .head ≡ terminal → DoorWith (ofArc (arcAt arcs k)) (wordAt net doorCountAt) net
   door-word k h e =
       let w = of-doors .here k h e in
-      record { place = w .place; inside = omega (arith, w .inside, doors-count); is = of-request .elsewhere (doorsFrom + w .place) (λ x m q. omega arith) ∙ w .is }
+      record { place = w .place; inside = omega (arith, w .inside, doors-count); is = ap exposedTo (of-request .elsewhere (doorsFrom + w .place) (λ x m q. omega arith)) ∙ w .is }
 
   lower-word : (v : ℕ) → v ≤ lastNode → wordAt net (lowerFrom + v) ≡ lowerAt side v
   lower-word v h = node-word (lowerFrom + v) v 1 (omega arith) h (omega arith)
@@ -124,39 +141,39 @@ module _ {arcs : List Arc} {source terminal reach : ℕ} {side : Side} {doors : 
   says-arc k h =
       arc-is net k (omega (arith, says-count))
       ∙ fields-say (arcAt arcs k)
-      (arc-word (tailsFrom + k) k 4 (omega arith) h (omega arith))
+      (sound-at arcs (checked .sound) k h .tail-node)
+      (arc-word (restFrom + k) k 4 (omega arith) h (omega arith))
       (arc-word (headsFrom + k) k 2 (omega arith) h (omega arith))
-      (sound-at arcs sound k h .spare-zero)
       (arc-word (metresFrom + k) k 1 (omega arith) h (omega arith))
       (arc-word k k 0 (omega arith) h (omega arith))
 
   says-arcs : arcsIn net ≡ arcs
   says-arcs = ext-getD (arcAt [] 0) (arcsIn net) arcs says-count (λ k h. says-arc k (omega (arith, says-count)))
 
-  hang-together : Chained arcs terminal net
+  says-mesh : meshIn net ≡ meshOf table q
+  says-mesh = rw (says-arcs, of-request .here 1 (omega arith), of-request .here 2 (omega arith), of-request .here 3 (omega arith))
+
+  hang-together : Chained (meshOf table q) net
   hang-together = record {
     size = of-request .size ∙ of-doors .size ∙ of-nodes .size ∙ of-arcs .size ∙ size;
     few = few;
-    sound = sound;
-    terminal-node = terminal-node;
-    source-node = rw (of-request .here 3 (omega arith)) source-node;
-    ends-differ = rw (of-request .here 3 (omega arith)) ends-differ;
-    reach-range = rw (of-request .here 2 (omega arith)) reach-range;
+    sound = checked .sound;
+    source-node = checked .source-node;
+    terminal-node = checked .terminal-node;
+    ends-differ = checked .ends-differ;
+    reach-range = checked .reach-range;
     next = λ k h. rw (arc-word (nextFrom + k) k 3 (omega arith) h (omega arith)) (chained .next k h);
     first = λ v h. rw (node-word (firstFrom + v) v 0 (omega arith) h (omega arith)) (chained .first v h);
-    lower = λ v h w. rw (lower-word v h) (lower-least table v w);
-    lower-small = λ v h. rw (lower-word v h) (lower-low table v);
-    lower-terminal = lower-word terminal terminal-node ∙ lower-reached table terminal (table .entries .terminal-reached) ∙ table .entries .terminal-metres;
+    lower = λ v h w. rw (lower-word v h) (lower-least sides v w);
+    lower-small = λ v h. rw (lower-word v h) (lower-low sides v);
+    lower-terminal = lower-word terminal (checked .terminal-node) ∙ lower-reached sides terminal (sides .entries .terminal-reached) ∙ sides .entries .terminal-metres;
     few-doors = omega (arith, doors-count, of-doors .few, few);
     door = door-word;
   }
 
-  pub laid-out : LaidOut arcs source terminal reach side net
+  pub laid-out : LaidOut (meshOf table q) side net
   laid-out = record {
-    words = rw (says-arcs, of-request .here 1 (omega arith)) hang-together;
-    arcs-are = says-arcs;
-    terminal-is = of-request .here 1 (omega arith);
-    reach-is = of-request .here 2 (omega arith);
-    source-is = of-request .here 3 (omega arith);
-    source-lower = λ e. lower-word source source-node ∙ lower-reached table source e;
+    words = subst (λ (m : Mesh). Chained m net) (sym says-mesh) hang-together;
+    mesh-is = says-mesh;
+    source-lower = λ e. lower-word (q .source) (checked .source-node) ∙ lower-reached sides (q .source) e;
   }

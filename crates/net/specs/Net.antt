@@ -1,94 +1,114 @@
 -- What a search walks over, laid out in words: the arcs' fields by number, the chain of each node, lower bounds, the request. Assumes nothing.
-use Prim.Native.Nat.{ℕ, zero, suc, _+_, _≤_, _<_, _^_}
+use Prim.Native.Nat.{ℕ, zero, suc, _+_, _/_, _%_, _≤_, _<_, _^_}
 use mathlib.Core.Bool.{true}
 use mathlib.Core.List.{List, [], _∷_}
 use mathlib.Core.Path.{_≡_}
 use lib.ListN.{length, getD}
 use Rattle.problem.specs.declared.Arc.{Arc}
-use Rattle.problem.specs.Table.{lastNode, mostReach, allSound}
-use Rattle.problem.specs.Routes.{arcAt, Way, metresOf}
+use Rattle.problem.specs.declared.Exposure.{Exposure}
+use Rattle.problem.specs.Table.{lastNode, nodes, mostReach, mostInTable, allSound}
+use Rattle.problem.specs.Exposures.{ofArc}
+use Rattle.problem.specs.Routes.{Mesh, mesh, arcAt, Way, metresOf, Route, ranking}
 use Rattle.chain.specs.Chain.{Next}
 
--- where the words of each kind begin: 128 words for the arcs' risks, metres, heads, next arcs and tails, 32 for the nodes' first arcs and lower bounds;
--- behind the request's words up to 128 for the risks of the doors, the arcs into the terminal
+-- where the words of each kind begin: as many words as a table can have arcs for the arcs' risks, metres, heads and next arcs, and for what else an arc's record
+-- says, as many as there are nodes for the nodes' first arcs and lower bounds; then the number of arcs and the request; then the number of doors, the arcs into
+-- the terminal, and their risks
 abbrev pub metresFrom : ℕ
-metresFrom = 128
+metresFrom = mostInTable
 
 abbrev pub headsFrom : ℕ
-headsFrom = 256
+headsFrom = metresFrom + mostInTable
 
 abbrev pub nextFrom : ℕ
-nextFrom = 384
+nextFrom = headsFrom + mostInTable
 
-abbrev pub tailsFrom : ℕ
-tailsFrom = 512
+abbrev pub restFrom : ℕ
+restFrom = nextFrom + mostInTable
 
 abbrev pub firstFrom : ℕ
-firstFrom = 640
+firstFrom = restFrom + mostInTable
 
 abbrev pub lowerFrom : ℕ
-lowerFrom = 672
+lowerFrom = firstFrom + nodes
 
 abbrev pub arcCountAt : ℕ
-arcCountAt = 704
+arcCountAt = lowerFrom + nodes
 
 abbrev pub terminalAt : ℕ
-terminalAt = 705
+terminalAt = suc arcCountAt
 
 abbrev pub reachAt : ℕ
-reachAt = 706
+reachAt = suc terminalAt
 
 abbrev pub sourceAt : ℕ
-sourceAt = 707
+sourceAt = suc reachAt
 
 abbrev pub doorCountAt : ℕ
-doorCountAt = 708
+doorCountAt = suc sourceAt
 
 abbrev pub doorsFrom : ℕ
-doorsFrom = 709
+doorsFrom = suc doorCountAt
 
 abbrev pub netSize : ℕ
-netSize = 837
+netSize = doorsFrom + mostInTable
 
 abbrev pub wordAt : List ℕ → ℕ → ℕ
 wordAt net i = getD net i 0
 
--- the arcs that the words say: n of them, from number k on
+-- the arcs that the words say: n of them, from number k on. No search reads the word of an arc's tail and spare field (the tail is its lowest byte); it is
+-- there so that the words say the table's own arcs
 unfoldable pub arcsFrom : List ℕ → ℕ → ℕ → List Arc
 arcsFrom net zero k = []
 arcsFrom net (suc n) k =
-    record { tail = wordAt net (tailsFrom + k); head = wordAt net (headsFrom + k); spare = 0; metres = wordAt net (metresFrom + k); risks = wordAt net k }
+    record { tail = wordAt net (restFrom + k) % 256; head = wordAt net (headsFrom + k); spare = wordAt net (restFrom + k) / 256; metres = wordAt net (metresFrom + k); risks = wordAt net k }
     ∷ arcsFrom net n (suc k)
 
 unfoldable pub arcsIn : List ℕ → List Arc
 arcsIn net = arcsFrom net (wordAt net arcCountAt) 0
 
--- among the risks of so many doors stand these
-pub record DoorWith (risks count : ℕ) (net : List ℕ) : Type 0 where
+-- the mesh that the words say
+abbrev pub meshIn : List ℕ → Mesh
+meshIn net = mesh (arcsIn net) (wordAt net sourceAt) (wordAt net terminalAt) (wordAt net reachAt)
+
+-- and its routes, in their ranking
+abbrev pub routesIn : List ℕ → List Route
+routesIn net = ranking (meshIn net)
+
+-- what a word says of an exposure
+abbrev pub exposedTo : ℕ → Exposure
+exposedTo word = record { risks = word }
+
+-- what the door of number j is exposed to
+abbrev pub doorIn : List ℕ → ℕ → Exposure
+doorIn net j = exposedTo (wordAt net (doorsFrom + j))
+
+-- among the doors, of which there are so many, is one exposed to this
+pub record DoorWith (e : Exposure) (count : ℕ) (net : List ℕ) : Type 0 where
   pub place : ℕ
   pub inside : place < count
-  pub is : wordAt net (doorsFrom + place) ≡ risks
+  pub is : doorIn net place ≡ e
 
--- what else holds of words that say these arcs, to this terminal
-pub record Chained (arcs : List Arc) (terminal : ℕ) (net : List ℕ) : Type 0 where
+-- what else holds of words that say this mesh
+pub record Chained (m : Mesh) (net : List ℕ) : Type 0 where
   pub size : length net ≡ netSize
-  pub few : length arcs ≤ 128
-  pub sound : allSound arcs ≡ true
-  pub terminal-node : terminal ≤ lastNode
-  pub source-node : wordAt net sourceAt ≤ lastNode
-  pub ends-differ : wordAt net sourceAt ≡ terminal → ⊥
-  pub reach-range : wordAt net reachAt ≤ mostReach
+  pub few : length (m .arcs) ≤ mostInTable
+  pub sound : allSound (m .arcs) ≡ true
+  pub source-node : m .source ≤ lastNode
+  pub terminal-node : m .terminal ≤ lastNode
+  pub ends-differ : m .source ≡ m .terminal → ⊥
+  pub reach-range : m .reach ≤ mostReach
   -- the chain of each node
-  pub next : (k : ℕ) → k < length arcs → Next arcs (arcAt arcs k .tail) (k + 1) (wordAt net (nextFrom + k))
-  pub first : (v : ℕ) → v ≤ lastNode → Next arcs v 0 (wordAt net (firstFrom + v))
+  pub next : (k : ℕ) → k < length (m .arcs) → Next (m .arcs) (arcAt (m .arcs) k .tail) (k + 1) (wordAt net (nextFrom + k))
+  pub first : (v : ℕ) → v ≤ lastNode → Next (m .arcs) v 0 (wordAt net (firstFrom + v))
   -- no way from a node to the terminal is shorter than its lower bound
-  pub lower : (v : ℕ) → v ≤ lastNode → {ks : List ℕ} → Way arcs v terminal ks → wordAt net (lowerFrom + v) ≤ metresOf arcs ks
+  pub lower : (v : ℕ) → v ≤ lastNode → {ks : List ℕ} → Way (m .arcs) v (m .terminal) ks → wordAt net (lowerFrom + v) ≤ metresOf (m .arcs) ks
   pub lower-small : (v : ℕ) → v ≤ lastNode → wordAt net (lowerFrom + v) < 2 ^ 32
-  pub lower-terminal : wordAt net (lowerFrom + terminal) ≡ 0
+  pub lower-terminal : wordAt net (lowerFrom + m .terminal) ≡ 0
   -- each arc into the terminal is a door
-  pub few-doors : wordAt net doorCountAt ≤ 128
-  pub door : (k : ℕ) → k < length arcs → arcAt arcs k .head ≡ terminal → DoorWith (arcAt arcs k .risks) (wordAt net doorCountAt) net
+  pub few-doors : wordAt net doorCountAt ≤ mostInTable
+  pub door : (k : ℕ) → k < length (m .arcs) → arcAt (m .arcs) k .head ≡ m .terminal → DoorWith (ofArc (arcAt (m .arcs) k)) (wordAt net doorCountAt) net
 
 -- the words hang together
 abbrev pub Net : List ℕ → Type 0
-Net net = Chained (arcsIn net) (wordAt net terminalAt) net
+Net net = Chained (meshIn net) net

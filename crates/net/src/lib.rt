@@ -1,35 +1,51 @@
-// What a search walks over, laid out in words, so that one slice is handed on from call to call.
+// What a search walks over, laid out in words, so that one slice is handed on from call to call; and what lies behind a search.
+use problem::Exposure;
 ghost use mathlib.Core.Path.{_≡_};
 ghost use Prim.Native.Nat.{_+_, _≤_, _<_, _^_};
 ghost use lib.ListN.{length};
 ghost use Rattle.problem.specs.Table.{lastNode, mostArcMetres, mostReach};
+ghost use Rattle.problem.specs.Exposures.{ofArc};
 ghost use Rattle.problem.specs.Routes.{arcAt};
-ghost use Rattle.net.specs.Net.{nextFrom, firstFrom, lowerFrom, terminalAt, reachAt, sourceAt, doorCountAt, doorsFrom, wordAt, arcsIn, Net};
+ghost use Rattle.net.specs.Net.{nextFrom, firstFrom, lowerFrom, doorCountAt, wordAt, arcsIn, meshIn, doorIn, Net};
 
-// Where the words of each kind begin.
-const METRES_FROM: u64 = 128;
+// Where the words of each kind begin: as many words as a table can have arcs for each field of an arc, as many as there are nodes for each
+// field of a node; then the number of arcs, the request, the number of doors, and the doors.
+pub const METRES_FROM: u64 = problem::MOST_IN_TABLE as u64;
 
-const HEADS_FROM: u64 = 256;
+const HEADS_FROM: u64 = METRES_FROM + METRES_FROM;
 
-const NEXT_FROM: u64 = 384;
+const NEXT_FROM: u64 = HEADS_FROM + METRES_FROM;
 
-const TAILS_FROM: u64 = 512;
+const REST_FROM: u64 = NEXT_FROM + METRES_FROM;
 
-const FIRST_FROM: u64 = 640;
+pub const FIRST_FROM: u64 = REST_FROM + METRES_FROM;
 
-const LOWER_FROM: u64 = 672;
+const LOWER_FROM: u64 = FIRST_FROM + problem::NODES as u64;
 
-const ARC_COUNT_AT: u64 = 704;
+pub const ARC_COUNT_AT: u64 = LOWER_FROM + problem::NODES as u64;
 
-const TERMINAL_AT: u64 = 705;
+const TERMINAL_AT: u64 = ARC_COUNT_AT + 1;
 
-const REACH_AT: u64 = 706;
+const REACH_AT: u64 = TERMINAL_AT + 1;
 
-const SOURCE_AT: u64 = 707;
+const SOURCE_AT: u64 = REACH_AT + 1;
 
-const DOOR_COUNT_AT: u64 = 708;
+const DOOR_COUNT_AT: u64 = SOURCE_AT + 1;
 
-const DOORS_FROM: u64 = 709;
+pub const DOORS_FROM: u64 = DOOR_COUNT_AT + 1;
+
+pub const SIZE: usize = DOORS_FROM as usize + problem::MOST_IN_TABLE;
+
+// More than any length, and than any number of routes that is counted.
+pub const NO_LENGTH: u64 = 1099511627776;
+
+// What lies behind a search that stands at a node: the nodes met, that one among them, the metres, and what the arcs are exposed to.
+// A search hands the three on one by one, which goes in registers; a route's end is handed the whole.
+pub struct Behind {
+    pub met: u64,
+    pub metres: u64,
+    pub exposure: Exposure,
+}
 
 // The word at a place.
 fn word(net: &[u64], at: u64) -> u64
@@ -40,12 +56,14 @@ fn word(net: &[u64], at: u64) -> u64
     net[i]
 }
 
-// The fields of arc k.
-pub fn risks(net: &[u64], k: u64) -> u64
+// What arc k is exposed to, and its metres and head.
+pub fn exposure(net: &[u64], k: u64) -> Exposure
     requires { ⌜ Net (now net) × (k < length (arcsIn (now net))) ⌝ }
-    ensures { λ r. ⌜ r ≡ arcAt (arcsIn (now (net .entry))) k .risks ⌝ }
+    ensures { λ r. ⌜ r ≡ ofArc (arcAt (arcsIn (now (net .entry))) k) ⌝ }
 {
-    word(net, k)
+    Exposure {
+        risks: word(net, k),
+    }
 }
 
 pub fn metres(net: &[u64], k: u64) -> u64
@@ -94,26 +112,26 @@ pub fn lower(net: &[u64], v: u64) -> u64
 
 pub fn terminal(net: &[u64]) -> u64
     requires { ⌜ Net (now net) ⌝ }
-    ensures { λ r. ⌜ (r ≡ wordAt (now (net .entry)) terminalAt) × (r ≤ lastNode) ⌝ }
+    ensures { λ r. ⌜ (r ≡ meshIn (now (net .entry)) .terminal) × (r ≤ lastNode) ⌝ }
 {
     word(net, TERMINAL_AT)
 }
 
 pub fn reach(net: &[u64]) -> u64
     requires { ⌜ Net (now net) ⌝ }
-    ensures { λ r. ⌜ (r ≡ wordAt (now (net .entry)) reachAt) × (r ≤ mostReach) ⌝ }
+    ensures { λ r. ⌜ (r ≡ meshIn (now (net .entry)) .reach) × (r ≤ mostReach) ⌝ }
 {
     word(net, REACH_AT)
 }
 
 pub fn source(net: &[u64]) -> u64
     requires { ⌜ Net (now net) ⌝ }
-    ensures { λ r. ⌜ (r ≡ wordAt (now (net .entry)) sourceAt) × (r ≤ lastNode) ⌝ }
+    ensures { λ r. ⌜ (r ≡ meshIn (now (net .entry)) .source) × (r ≤ lastNode) ⌝ }
 {
     word(net, SOURCE_AT)
 }
 
-// How many arcs lead into the terminal, and the risks of each: these arcs are the doors.
+// How many arcs lead into the terminal, and what each is exposed to: these arcs are the doors.
 pub fn door_count(net: &[u64]) -> u64
     requires { ⌜ Net (now net) ⌝ }
     ensures { λ r. ⌜ r ≡ wordAt (now (net .entry)) doorCountAt ⌝ }
@@ -121,9 +139,11 @@ pub fn door_count(net: &[u64]) -> u64
     word(net, DOOR_COUNT_AT)
 }
 
-pub fn door_risks(net: &[u64], j: u64) -> u64
+pub fn door_exposure(net: &[u64], j: u64) -> Exposure
     requires { ⌜ Net (now net) × (j < wordAt (now net) doorCountAt) ⌝ }
-    ensures { λ r. ⌜ r ≡ wordAt (now (net .entry)) (doorsFrom + j) ⌝ }
+    ensures { λ r. ⌜ r ≡ doorIn (now (net .entry)) j ⌝ }
 {
-    word(net, DOORS_FROM + j)
+    Exposure {
+        risks: word(net, DOORS_FROM + j),
+    }
 }

@@ -1,34 +1,34 @@
 // Windows of lengths, one after the other: the tally of all routes shorter than some length grows until it says how the reply ends.
-mod aim;
-
-use sweep::Swept;
-use sweep::Tally;
 use sweep::Window;
+use tally::Tally;
 ghost use mathlib.Core.Path.{_≡_};
-ghost use mathlib.Core.Bool.{false};
-ghost use mathlib.Core.List.{List, List·Memᴰ};
-ghost use Prim.Native.Nat.{ℕ, _+_, _*_, _<_, _≤_};
+ghost use Prim.Native.Nat.{_≤_};
 ghost use Rattle.problem.specs.Table.{mostReach, mostAllowance};
-ghost use Rattle.problem.specs.Routes.{metresOf};
-ghost use Rattle.problem.specs.Pairs.{floor};
-ghost use Rattle.net.specs.Net.{Net, arcsIn, wordAt, terminalAt, reachAt, sourceAt};
-ghost use Rattle.sweep.proofs.MainLaws.{grown};
-ghost use Rattle.sweep.proofs.SweptLaws.{sweptTally};
-ghost use Rattle.sweep.proofs.StepLaws.{noTally};
-ghost use Rattle.plan.specs.Plan.{metBy, notOver, endBy, Turning, Turned, Planning, Ended};
+ghost use Rattle.net.specs.Net.{Net};
+ghost use Rattle.mains.specs.Mains.{noTally};
+ghost use Rattle.plan.specs.Plan.{metBy, endedAt, Turning, Turned, Planning, Ended};
 
-// How planning ends: 0 settled by length, 1 all routes are ranked, 2 the allowance has ended.
-pub struct Run {
-    pub tally: Tally,
-    pub end: u8,
+// How planning ends, and the tally then: settled by length; with all routes ranked; or at the allowance.
+pub enum Run {
+    ByLength(Tally),
+    AllRanked(Tally),
+    AtAllowance(Tally),
 }
 
-// More than any length.
-const NO_CUT: u64 = 1099511627776;
+// Where to go on: the tally of all routes shorter than `cur`, and how wide the next window is to be.
+struct Next {
+    tally: Tally,
+    cur: u64,
+    width: u64,
+}
 
-const NO_KEY: u64 = 585467951558164480;
+// What one turn of the loop comes to.
+enum Turn {
+    GoOn(Next),
+    Stop(Run),
+}
 
-const WIDEST: u64 = 62000000;
+const WIDEST: u64 = problem::MOST_REACH as u64;
 
 fn no_tally() -> Tally
     ensures { λ r. ⌜ r ≡ noTally ⌝ }
@@ -36,7 +36,7 @@ fn no_tally() -> Tally
     Tally {
         ranked: 0,
         last: 0,
-        best: NO_KEY,
+        best: keys::NO_KEY,
         over: false,
     }
 }
@@ -46,35 +46,10 @@ fn is_met(t: Tally, floor: u64) -> bool
     requires { ⌜ t .last ≤ mostReach ⌝ }
     ensures { λ r. ⌜ r ≡ metBy t floor ⌝ }
 {
-    let high = t.best / 67108864;
-    if high / 134217728 != floor {
+    if keys::shared_of(t.best) != floor {
         return false;
     }
-    high % 134217728 <= 2 * t.last
-}
-
-// The tally after the routes of one window of lengths.
-pub fn one_window(net: &[u64], w: Window, t: Tally) -> Swept
-    requires { ⌜ Net (now net) × (w .hi ≤ wordAt (now net) reachAt) ⌝ }
-    ensures tally { λ r. ⌜ r .tally ≡ sweptTally (arcsIn (now (net .entry))) (wordAt (now (net .entry)) sourceAt) (wordAt (now (net .entry)) terminalAt) (wordAt (now (net .entry)) reachAt) w t ⌝ }
-    ensures past { λ r. ⌜ w .hi < r .cut ⌝ }
-    ensures clear { λ r. ⌜ (r .tally .over ≡ false → (ks : List ℕ) → List·Memᴰ ks (grown (arcsIn (now (net .entry))) (wordAt (now (net .entry)) sourceAt) (wordAt (now (net .entry)) terminalAt)) → w .hi < metresOf (arcsIn (now (net .entry))) ks → r .cut ≤ metresOf (arcsIn (now (net .entry))) ks) ⌝ }
-{
-    let source = net::source(net);
-    let met = sets::with(0, source as u8);
-    let s = Swept {
-        tally: t,
-        cut: NO_CUT,
-    };
-    sweep::sweep(net, w, source, met, 0, 0, s)
-}
-
-// One turn of the loop: the tally of all routes shorter than `cur`, and how wide the next window is to be. `end` as in a run, or 3 to go on.
-struct Turn {
-    tally: Tally,
-    cur: u64,
-    width: u64,
-    end: u8,
+    keys::total_of(t.best) <= 2 * t.last
 }
 
 // The cap of a window. A wide one gives up early, since what it found is thrown away; one of a single length goes on to the allowance.
@@ -85,7 +60,7 @@ fn cap_for(ranked: u64, allowance: u64, width: u64) -> u64
     if width == 0 {
         return allowance;
     }
-    laws::smaller(allowance, 8 * ranked + 64)
+    laws::smaller(allowance, aim::many_more(ranked))
 }
 
 // How wide the next window is to be, once one has taken the routes ranked from `before` to `ranked`. Each window walks again over what is
@@ -108,19 +83,10 @@ fn wider(width: u64, before: u64, ranked: u64) -> u64
     2 * width + 1
 }
 
-fn end_by(t: Tally, floor: u64, otherwise: u8) -> u8
-    requires { ⌜ t .last ≤ mostReach ⌝ }
-    ensures { λ r. ⌜ r ≡ endBy (metBy t floor) otherwise ⌝ }
-{
-    if is_met(t, floor) {
-        return 0;
-    }
-    otherwise
-}
-
-fn ended_at(u: Tally, cur: u64, floor: u64) -> Turn
+// The end of a run at the allowance, whose last window gave up.
+fn ended_at(u: Tally, floor: u64) -> Run
     requires { ⌜ u .last ≤ mostReach ⌝ }
-    ensures { λ r. ⌜ (r .tally ≡ notOver u) × (r .end ≡ endBy (metBy (notOver u) floor) 2) ⌝ }
+    ensures { λ r. ⌜ r ≡ endedAt u floor ⌝ }
 {
     let t = Tally {
         ranked: u.ranked,
@@ -128,19 +94,16 @@ fn ended_at(u: Tally, cur: u64, floor: u64) -> Turn
         best: u.best,
         over: false,
     };
-    let end = end_by(t, floor, 2);
-    Turn {
-        tally: t,
-        cur: cur,
-        width: 0,
-        end: end,
+    if is_met(t, floor) {
+        return Run::ByLength(t);
     }
+    Run::AtAllowance(t)
 }
 
 // One window, and what it says of how to go on.
 fn try_window(net: &[u64], allowance: u64, floor: u64, t: Tally, cur: u64, width: u64) -> Turn
-    requires { ⌜ Net (now net) × Turning (now net) allowance t cur width ⌝ }
-    ensures { λ r. ⌜ Turned (now (net .entry)) allowance floor cur width r ⌝ }
+    requires { ⌜ Net (now net) × Planning (now net) allowance floor × Turning (now net) allowance t cur width ⌝ }
+    ensures { λ r. ⌜ Turned (now (net .entry)) allowance floor t cur width r ⌝ }
 {
     let hi = laws::smaller(cur + width, net::reach(net));
     let cap = cap_for(t.ranked, allowance, hi - cur);
@@ -149,26 +112,28 @@ fn try_window(net: &[u64], allowance: u64, floor: u64, t: Tally, cur: u64, width
         hi: hi,
         cap: cap,
     };
-    let r = one_window(net, w, t);
+    let r = sweep::sweep(net, w, t);
     let u = r.tally;
     if !u.over {
-        let end = end_by(u, floor, 3);
-        return Turn {
+        if is_met(u, floor) {
+            return Turn::Stop(Run::ByLength(u));
+        }
+        let next = Next {
             tally: u,
             cur: r.cut,
             width: wider(width, t.ranked, u.ranked),
-            end: end,
         };
+        return Turn::GoOn(next);
     }
     if hi == cur {
-        return ended_at(u, cur, floor);
+        return Turn::Stop(ended_at(u, floor));
     }
-    Turn {
+    let next = Next {
         tally: t,
         cur: cur,
         width: (hi - cur) / 2,
-        end: 3,
-    }
+    };
+    Turn::GoOn(next)
 }
 
 // Windows one after the other, from the shortest length on.
@@ -180,21 +145,20 @@ pub fn plan(net: &[u64], allowance: u64, floor: u64) -> Run
     let mut t = no_tally();
     let mut cur = net::lower(net, net::source(net));
     let mut width = laws::smaller(cur / 8, WIDEST);
-    let mut end = aim::UNKNOWN;
+    let mut end = net::NO_LENGTH;
     while cur <= reach {
-        let a = aim::narrow(net, allowance, t.ranked, cur, width, end);
-        let r = try_window(net, allowance, floor, t, cur, a.width);
-        let u = r.tally;
-        if r.end != 3 {
-            return Run {
-                tally: u,
-                end: r.end,
-            };
+        let a = aim::take_aim(net, allowance, t.ranked, cur, width, end);
+        match try_window(net, allowance, floor, t, cur, a.width) {
+            Turn::Stop(run) => {
+                return run;
+            }
+            Turn::GoOn(next) => {
+                t = next.tally;
+                cur = next.cur;
+                width = next.width;
+                end = a.end;
+            }
         }
-        t = u;
-        cur = r.cur;
-        width = r.width;
-        end = a.end;
     }
-    Run { tally: t, end: 1 }
+    Run::AllRanked(t)
 }

@@ -7,8 +7,8 @@ use native.Mathlib.Omega.{arith}
 use lib.ListN.{length, getD, drop, drop-of-length-le}
 use lib.Seq.{drop-cons}
 use Rattle.problem.specs.Printed.{text, digits, fields}
-use Rattle.buffer.specs.Puts.{Puts}
-use Rattle.buffer.proofs.PutLaws.{puts-then, puts-length}
+use Rattle.octets.specs.Puts.{Puts}
+use Rattle.octets.proofs.PutLaws.{puts-then, puts-length}
 use Rattle.print.proofs.DigitLaws.{digits-length}
 
 -- a space and the digits

@@ -1,4 +1,4 @@
 pub mod DigitLaws
-pub mod ReadLaws
+pub mod PartLaws
 pub mod FieldLaws
 pub mod LineLaws

@@ -9,8 +9,8 @@ use Rattle.laws.specs.Choosing.{if_then_else_}
 use Rattle.problem.specs.Table.{numberAt}
 use Rattle.problem.specs.Reply.{refuse}
 use Rattle.problem.specs.Printed.{kilometres, text, digits, fields, lines, printed}
-use Rattle.buffer.specs.Puts.{Puts}
-use Rattle.buffer.proofs.PutLaws.{puts-next, puts-then}
+use Rattle.octets.specs.Puts.{Puts}
+use Rattle.octets.proofs.PutLaws.{puts-next, puts-then}
 use Rattle.print.specs.Print.{verdictLine}
 
 module _ (reply : List ℕ) where

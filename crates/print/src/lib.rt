@@ -6,39 +6,19 @@ ghost use Prim.Native.Nat.{_+_, _-_, _*_, _≤_};
 ghost use lib.Dec.{eqb};
 ghost use lib.ListN.{length, take, drop};
 ghost use Rattle.laws.specs.Choosing.{if_then_else_};
-ghost use Rattle.problem.specs.Table.{replySize, numberAt};
+ghost use Rattle.problem.specs.Table.{replySize};
 ghost use Rattle.problem.specs.Printed.{kilometres, text, digits, fields, lines, printed};
-ghost use Rattle.buffer.specs.Puts.{Puts};
+ghost use Rattle.octets.specs.Puts.{Puts};
 ghost use Rattle.print.specs.Print.{printRoom, verdictLine};
+
+// Enough for any answer's text.
+pub const ROOM: usize = 480;
 
 // Metres as kilometres, rounded up.
 pub fn kilometres(metres: u32) -> u32
     ensures { λ r. ⌜ r ≡ kilometres metres ⌝ }
 {
     ((metres as u64 + 999) / 1000) as u32
-}
-
-pub fn wide(x: u8) -> u32
-    ensures { λ r. ⌜ r ≡ x ⌝ }
-{
-    x as u32
-}
-
-fn number4(a: u8, b: u8, c: u8, d: u8) -> u32
-    ensures { λ r. ⌜ r ≡ a + 256 * (b + 256 * (c + 256 * d)) ⌝ }
-{
-    a as u32 + 256 * (b as u32 + 256 * (c as u32 + 256 * (d as u32)))
-}
-
-// The number that 4 bytes say.
-pub fn number_at(bytes: &[u8], at: usize) -> u32
-    requires { ⌜ at + 4 ≤ length (now bytes) ⌝ }
-    ensures { λ r. ⌜ r ≡ numberAt (now (bytes .entry)) at 4 ⌝ }
-{
-    let b = at + 1;
-    let c = b + 1;
-    let d = c + 1;
-    number4(bytes[at], bytes[b], bytes[c], bytes[d])
 }
 
 // The first `count` bytes from a place on, or as many as there are.
@@ -61,10 +41,10 @@ fn decimal(out: &mut [u8], at: usize, x: u32) -> usize
     ensures { λ r. ⌜ Puts (digits 10 x) (now (out .entry)) at (now (out .exit)) r ⌝ }
 {
     if x < 10 {
-        return buffer::put(out, at, b'0' + x as u8);
+        return octets::put(out, at, b'0' + x as u8);
     }
     let next = decimal(out, at, x / 10);
-    buffer::put(out, next, b'0' + (x % 10) as u8)
+    octets::put(out, next, b'0' + (x % 10) as u8)
 }
 
 // A number behind a space.
@@ -73,7 +53,7 @@ fn field(out: &mut [u8], at: usize, x: u32) -> usize
     ensures { λ r. ⌜ Puts (text " " ++ digits 10 x) (now (out .entry)) at (now (out .exit)) r ⌝ }
     ensures { λ r. ⌜ r ≤ at + 11 ⌝ }
 {
-    let next = buffer::put(out, at, b' ');
+    let next = octets::put(out, at, b' ');
     decimal(out, next, x)
 }
 
@@ -86,10 +66,10 @@ fn numbers(out: &mut [u8], at: usize, bytes: &[u8]) -> usize
     let mut next = at;
     let mut i = 0;
     while i < bytes.len() {
-        next = field(out, next, wide(bytes[i]));
+        next = field(out, next, octets::wide(bytes[i]));
         i += 1;
     }
-    buffer::put(out, next, b'\n')
+    octets::put(out, next, b'\n')
 }
 
 // A line: a word, a number, and small numbers.
@@ -98,7 +78,7 @@ fn line(out: &mut [u8], at: usize, word: &[u8], first: u32, rest: &[u8]) -> usiz
     ensures { λ r. ⌜ Puts (now (word .entry) ++ fields (first ∷ now (rest .entry))) (now (out .entry)) at (now (out .exit)) r ⌝ }
     ensures { λ r. ⌜ r ≤ at + length (now (word .entry)) + 4 * length (now (rest .entry)) + 12 ⌝ }
 {
-    let next = buffer::copy(out, at, word);
+    let next = octets::copy(out, at, word);
     let next = field(out, next, first);
     numbers(out, next, rest)
 }
@@ -110,9 +90,9 @@ fn verdict_word(out: &mut [u8], verdict: u8) -> usize
     ensures { λ r. ⌜ r ≡ 7 ⌝ }
 {
     if verdict == 0 {
-        return buffer::copy(out, 0, b"settled");
+        return octets::copy(out, 0, b"settled");
     }
-    buffer::copy(out, 0, b"stopped")
+    octets::copy(out, 0, b"stopped")
 }
 
 // The verdict's word and its numbers: shared count, floor, ranked.
@@ -122,10 +102,10 @@ fn verdict_line(out: &mut [u8], reply: &[u8]) -> usize
     ensures { λ r. ⌜ r ≤ 41 ⌝ }
 {
     let next = verdict_word(out, reply[0]);
-    let next = field(out, next, wide(reply[1]));
-    let next = field(out, next, wide(reply[2]));
-    let next = field(out, next, number_at(reply, 8));
-    buffer::put(out, next, b'\n')
+    let next = field(out, next, octets::wide(reply[1]));
+    let next = field(out, next, octets::wide(reply[2]));
+    let next = field(out, next, octets::number4(reply, 8));
+    octets::put(out, next, b'\n')
 }
 
 // The three lines for a reply record.
@@ -135,13 +115,19 @@ fn lines(out: &mut [u8], reply: &[u8]) -> usize
 {
     let next = verdict_line(out, reply);
     let main = part(reply, 32, reply[3]);
-    let next = line(out, next, b"main", kilometres(number_at(reply, 12)), main);
+    let next = line(
+        out,
+        next,
+        b"main",
+        kilometres(octets::number4(reply, 12)),
+        main,
+    );
     let standby = part(reply, 64, reply[4]);
     line(
         out,
         next,
         b"standby",
-        kilometres(number_at(reply, 16)),
+        kilometres(octets::number4(reply, 16)),
         standby,
     )
 }

@@ -9,42 +9,43 @@ use lib.Dec.{leb, ltb}
 use lib.ListN.{length}
 use borrow.Author.Tests.{leb-true, leb-false, le-leb, lt-leb, ltb-true, ltb-false}
 use Rattle.laws.proofs.ListLaws.{getD-mem}
+use Rattle.problem.specs.declared.Request.{Request}
 use Rattle.problem.specs.Table.{arcsOf}
 use Rattle.problem.specs.Routes.{Route, routeOf}
-use Rattle.problem.specs.Pairs.{noRoute, Step, leastSettled, ranked, verdict}
-use Rattle.problem.specs.Reply.{Request, Answer, refusal, answer}
+use Rattle.problem.specs.Pairs.{noRoute, Step, every, someAt, leastSettled, ranked, verdict}
+use Rattle.problem.specs.Reply.{meshOf, Answer, refusal, Passed, answer}
 use Rattle.problem.specs.Calls.{routesOf, RouteOf, Applies}
 use Rattle.problem.proofs.RankingLaws.{ranking-in, ranking-out}
-use Rattle.problem.proofs.PairLaws.{best-mem, best-main}
-use Rattle.problem.proofs.ReplyLaws.{Passed, answered, Outcome, outcome, passed-refusal, sound-heads, ranked-step, route-range}
+use Rattle.problem.proofs.CandidateLaws.{best-in, best-main, every-some}
+use Rattle.problem.proofs.ReplyLaws.{answered, Outcome, outcome, passed-refusal, sound-heads, ranked-step, route-range}
 use Rattle.problem.proofs.RefusalLaws.{NoneBelow, Told, refusal-told, Later, passed-later, passed-below}
 
 -- ---- the verdict
 
-pub verdict-settled : (routes : List Route) (a : ℕ) → leastSettled routes ≤ a → verdict routes a ≡ 0
+pub verdict-settled : (routes : List Route) (a : ℕ) → leastSettled every routes ≤ a → verdict every routes a ≡ 0
 unfolding verdict
-verdict-settled routes a h = rw (le-leb (leastSettled routes) a h)
+verdict-settled routes a h = rw (le-leb (leastSettled every routes) a h)
 
-pub verdict-stopped : (routes : List Route) (a : ℕ) → a < leastSettled routes → verdict routes a ≡ 1
+pub verdict-stopped : (routes : List Route) (a : ℕ) → a < leastSettled every routes → verdict every routes a ≡ 1
 unfolding verdict
-verdict-stopped routes a h = rw (lt-leb (leastSettled routes) a h)
+verdict-stopped routes a h = rw (lt-leb (leastSettled every routes) a h)
 
 -- settled, or stopped
 pub data Verdict (routes : List Route) (a : ℕ) : Type 0 where
-  settled-at : leastSettled routes ≤ a → verdict routes a ≡ 0 → Verdict routes a
-  stopped-at : a < leastSettled routes → verdict routes a ≡ 1 → Verdict routes a
+  settled-at : leastSettled every routes ≤ a → verdict every routes a ≡ 0 → Verdict routes a
+  stopped-at : a < leastSettled every routes → verdict every routes a ≡ 1 → Verdict routes a
 
 pub verdict-cases : (routes : List Route) (a : ℕ) → Verdict routes a
-verdict-cases routes a = go (leb (leastSettled routes) a) refl
+verdict-cases routes a = go (leb (leastSettled every routes) a) refl
   where
-    go : (b : Bool) → leb (leastSettled routes) a ≡ b → Verdict routes a
-    go true e = let h = leb-true (leastSettled routes) a e in settled-at h (verdict-settled routes a h)
-    go false e = let h = leb-false (leastSettled routes) a e in stopped-at h (verdict-stopped routes a h)
+    go : (b : Bool) → leb (leastSettled every routes) a ≡ b → Verdict routes a
+    go true e = let h = leb-true (leastSettled every routes) a e in settled-at h (verdict-settled routes a h)
+    go false e = let h = leb-false (leastSettled every routes) a e in stopped-at h (verdict-stopped routes a h)
 
-pub verdict-small : (routes : List Route) (a : ℕ) → verdict routes a < 2
+pub verdict-small : (routes : List Route) (a : ℕ) → verdict every routes a < 2
 verdict-small routes a = go (verdict-cases routes a)
   where
-    go : Verdict routes a → verdict routes a < 2
+    go : Verdict routes a → verdict every routes a < 2
     go (Verdict.settled-at l e) = omega arith
     go (Verdict.stopped-at l e) = omega arith
 
@@ -77,8 +78,12 @@ some-route table q size passed some = go (outcome table q size)
     go (Outcome.with-pair p more e) = record { passed = p; some = more; is = e }
 
 -- the step whose best pair is replied
-pub pair-step : {table : List ℕ} {q : Request} {size : ℕ} → WithPair table q size → Step (routesOf table q) (ranked (routesOf table q) (q .allowance))
-pair-step {table} {q} w = ranked-step (routesOf table q) (q .allowance) (w .some) (w .passed .some-allowance)
+pub pair-step : {table : List ℕ} {q : Request} {size : ℕ} → WithPair table q size → Step (routesOf table q) (ranked every (routesOf table q) (q .allowance))
+pair-step {table} {q} w = ranked-step (routesOf table q) (q .allowance) (w .some) (w .passed .checked .some-allowance)
+
+-- that step has a pair
+pub some-pair : {table : List ℕ} {q : Request} {size : ℕ} → WithPair table q size → someAt every (routesOf table q) (ranked every (routesOf table q) (q .allowance)) ≡ true
+some-pair {table} {q} w = every-some (routesOf table q) (pair-step w)
 
 -- with a higher number nothing was written
 pub high-number : (table : List ℕ) (q : Request) (size : ℕ) → 2 ≤ answer table q size .number → answer table q size .reply ≡ []
@@ -106,12 +111,12 @@ NoRoute table q = (ks : List ℕ) → RouteOf table q ks → ⊥
 
 none-listed : {table : List ℕ} {q : Request} {size : ℕ} → Passed table q size → routesOf table q ≡ [] → NoRoute table q
 none-listed {table} {q} p none ks r =
-    let m = ranking-in (arcsOf table) (q .source) (q .terminal) (q .reach) (sound-heads (arcsOf table) (p .sound)) (omega (arith, p .source-node)) r in
+    let m = ranking-in (meshOf table q) (sound-heads (arcsOf table) (p .checked .sound)) (p .checked .source-node) r in
     List·Memᴰ·not-nil (subst (λ (l : List Route). List·Memᴰ (routeOf (arcsOf table) ks) l) none m)
 
 some-listed : (table : List ℕ) (q : Request) → 0 < length (routesOf table q) → NoRoute table q → ⊥
 some-listed table q some f =
-    let o = ranking-out (arcsOf table) (q .source) (q .terminal) (q .reach) (getD-mem noRoute (routesOf table q) 0 some) in
+    let o = ranking-out (meshOf table q) (getD-mem noRoute (routesOf table q) 0 some) in
     f (o .list) (o .route)
 
 -- ---- the order of the checks
@@ -137,8 +142,8 @@ module _ (table : List ℕ) (q : Request) (size : ℕ) where
     where
       go : WithPair table q size → {i : ℕ} → Later table q size i → ⊥
       go w (Later.no-route f) = some-listed table q (w .some) f
-      go w (Later.main-too-long f) = omega (arith, route-range (w .passed) (best-main (routesOf table q) (pair-step w)))
-      go w (Later.standby-too-long f) = omega (arith, route-range (w .passed) (best-mem (routesOf table q) (pair-step w) .1))
+      go w (Later.main-too-long f) = omega (arith, route-range (w .passed .checked) (best-main every (routesOf table q) (ranked every (routesOf table q) (q .allowance)) (some-pair w)))
+      go w (Later.standby-too-long f) = omega (arith, route-range (w .passed .checked) (best-in every (routesOf table q) (ranked every (routesOf table q) (q .allowance)) (some-pair w) .standby-in))
 
   -- each number exactly where its own test holds and none of a smaller number
   pub numbered : (n : ℕ) → 2 ≤ n → (answer table q size .number ≡ n) ↔ (Applies table q size n × NoneBelow table q size n)

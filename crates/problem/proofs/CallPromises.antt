@@ -8,10 +8,11 @@ use Prim.Native.Nat.{ℕ, _*_, _≤_, _<_}
 use native.Mathlib.Omega.{arith}
 use lib.ListN.{length, take, drop}
 use lib.Seq.{take-at}
+use Rattle.problem.specs.declared.Request.{Request}
 use Rattle.problem.specs.Table.{mostAllowance, replySize, Bytes, arcsOf}
 use Rattle.problem.specs.Routes.{Route, metresOf}
 use Rattle.problem.specs.Pairs.{pair, sharedRisks, sharedCount, total, judged, NoWorse, ofRank, floor}
-use Rattle.problem.specs.Reply.{Request, answer, after, sharedIn, rankedIn, mainMetresIn, standbyMetresIn, totalIn, sharedRisksIn, mainIn, standbyIn}
+use Rattle.problem.specs.Reply.{answer, after, sharedIn, rankedIn, mainMetresIn, standbyMetresIn, totalIn, sharedRisksIn, mainIn, standbyIn}
 use Rattle.problem.specs.Calls.{routesOf, RouteOf, WayOf, pairMadeOf, pairSaid, allowing, Applies, Called}
 use Rattle.problem.proofs.Promises as promised
 

@@ -13,7 +13,7 @@ use borrow.Author.Tests.{eq-eqb, ne-eqb}
 use Rattle.laws.specs.Sets.{bit, with, unmet}
 use Rattle.laws.proofs.SetLaws.{unmet-none, unmet-with}
 use Rattle.problem.specs.declared.Arc.{Arc}
-use Rattle.problem.specs.Table.{mostArcs}
+use Rattle.problem.specs.Table.{lastNode, mostArcs}
 use Rattle.problem.specs.Routes.{arcAt, Way, opens, sprout, grow}
 use Rattle.problem.proofs.RouteLaws.{opens-new, grow-out, grown-way, unmet-source}
 
@@ -93,14 +93,14 @@ sprout-none rest met at k (a ∷ arcs) f = go (opens met at a) refl (sprout-none
     go true e ih = absurd (omega (arith, f 0 (omega arith), opens-new met at a e))
     go false e ih = rw (e, sprout) ih
 
-module _ (arcs : List Arc) (terminal : ℕ) (low : (k : ℕ) → k < length arcs → arcAt arcs k .head < 32) where
+module _ (arcs : List Arc) (terminal : ℕ) (low : (k : ℕ) → k < length arcs → arcAt arcs k .head ≤ lastNode) where
   pub grow-enough : (n met at : ℕ) → unmet 32 met ≤ n → grow arcs terminal (suc n) met at ≡ grow arcs terminal n met at
   unfolding grow
   grow-enough zero met at h = go (eqb at terminal) refl
     where
       go : (b : Bool) → eqb at terminal ≡ b → grow arcs terminal 1 met at ≡ grow arcs terminal 0 met at
       go true e = rw (e, grow)
-      go false e = rw (e, grow) (sprout-none (grow arcs terminal 0) met at 0 arcs (λ i b. unmet-none 32 (arcAt arcs i .head) met (omega arith) (low i b)))
+      go false e = rw (e, grow) (sprout-none (grow arcs terminal 0) met at 0 arcs (λ i b. unmet-none 32 (arcAt arcs i .head) met (omega arith) (omega (arith, low i b))))
   grow-enough (suc n) met at h = go (eqb at terminal) refl (grow-enough n)
     where
       go : (b : Bool) → eqb at terminal ≡ b → ((s x : ℕ) → unmet 32 s ≤ n → grow arcs terminal (suc n) s x ≡ grow arcs terminal n s x) → grow arcs terminal (suc (suc n)) met at ≡ grow arcs terminal (suc n) met at
@@ -108,9 +108,9 @@ module _ (arcs : List Arc) (terminal : ℕ) (low : (k : ℕ) → k < length arcs
       go false e ih =
           rw (e, grow)
           (sprout-same (grow arcs terminal (suc n)) (grow arcs terminal n) met at 0 arcs
-          (λ i b o. ih (with met (arcAt arcs i .head)) (arcAt arcs i .head) (omega (arith, unmet-with 32 (arcAt arcs i .head) met (low i b) (opens-new met at (arcAt arcs i) o)))))
+          (λ i b o. ih (with met (arcAt arcs i .head)) (arcAt arcs i .head) (omega (arith, unmet-with 32 (arcAt arcs i .head) met (omega (arith, low i b)) (opens-new met at (arcAt arcs i) o)))))
 
   -- from the source
-  pub grow-source : (source : ℕ) → source < 32 → grow arcs terminal (suc (unmet 32 (with 0 source))) (with 0 source) source ≡ grow arcs terminal mostArcs (with 0 source) source
+  pub grow-source : (source : ℕ) → source ≤ lastNode → grow arcs terminal (suc (unmet 32 (with 0 source))) (with 0 source) source ≡ grow arcs terminal mostArcs (with 0 source) source
   grow-source source node =
       ap (λ (n : ℕ). grow arcs terminal (suc n) (with 0 source) source) (unmet-source source node) ∙ grow-enough mostArcs (with 0 source) source (omega (arith, unmet-source source node))

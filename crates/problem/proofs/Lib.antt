@@ -1,9 +1,11 @@
 pub mod ByteLaws
+pub mod ExposureLaws
 pub mod TableLaws
 pub mod RouteLaws
 pub mod GrowthLaws
 pub mod RankingLaws
 pub mod PairLaws
+pub mod CandidateLaws
 pub mod SettleLaws
 pub mod WayLaws
 pub mod ReplyLaws

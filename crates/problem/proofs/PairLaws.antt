@@ -1,27 +1,23 @@
--- Pairs: who is among them, the judgement, the best pair of a step, the floor. Assumes nothing.
+-- Pairs: who is among them, the judgement, the floor. Assumes nothing.
 use mathlib.Core.Path.{_≡_, refl, sym, ap, ap₂, _∙_}
 use mathlib.Core.Logic.{_⊎_, inl, inr, _↔_}
 use mathlib.Core.Bool.{Bool, true, false, _&&_, _||_, not, and-false}
 use mathlib.Core.List.{List, [], _∷_, map, List·Memᴰ, List·Memᴰ·head, List·Memᴰ·tail, List·Memᴰ·not-nil, List·Memᴰ·append-cases, Memᴰ·append-left, Memᴰ·append-right, Memᴰ·cast, Memᴰ·map, Memᴰ·of-map, head-eq-of-cons-eq, tail-eq-of-cons-eq}
-use Prim.Native.Nat.{ℕ, zero, suc, _-_, _/_, _^_, _≤_, _<_}
-use native.Mathlib.Nat.{add-comm, pow-suc}
+use Prim.Native.Nat.{ℕ, _-_, _≤_, _<_}
+use native.Mathlib.Nat.{add-comm}
 use native.Mathlib.Omega.{arith}
-use lib.Bits.{bitAnd, and-comm}
-use lib.Count.{onesIn}
 use lib.Dec.{ltb}
-use lib.ListN.{length, take}
-use lib.Pow.{pow-pos}
+use lib.ListN.{length}
 use borrow.Author.Tests.{ltb-true, ltb-false, lt-ltb, le-ltb}
 use Rattle.laws.specs.Choosing.{lexBy}
-use Rattle.laws.specs.Sets.{bit, inBoth}
-use Rattle.laws.proofs.ListLaws.{getD-mem, getD-take-mem, take-more, take-mem}
+use Rattle.laws.specs.Sets.{inBoth}
 use Rattle.laws.proofs.OrderLaws.{Total, Weak, weak-asym, total-weak, keyed-weak, ltb-total, lex-total, lex-false, lex-lt, lex-eq}
-use Rattle.laws.proofs.FirstLaws.{first-mem, first-least}
 use Rattle.laws.proofs.SortLaws.{Strict, place-order}
-use Rattle.laws.proofs.SetLaws.{bit-zero, bit-suc, bit-and, ones-mono, ones-common}
-use Rattle.problem.specs.Table.{riskWidth}
+use Rattle.problem.specs.Table.{riskWidth, mostShared}
 use Rattle.problem.specs.Routes.{Route, rankKey, precedes}
-use Rattle.problem.specs.Pairs.{Pair, pair, sharedRisks, sharedCount, total, judgeKey, judged, NoWorse, pairsOf, noRoute, Step, ofRank, rankedKey, best, commonRisks, floor}
+use Rattle.problem.specs.Exposures.{exposed, toAll, common, sharing}
+use Rattle.problem.specs.Pairs.{Pair, pair, sharedCount, total, judgeKey, judged, NoWorse, pairsOf, noRoute, Step, ofRank, rankedKey, onEvery, floor}
+use Rattle.problem.proofs.ExposureLaws.{exposed-all, exposed-common, Inside, size-mono, sharing-mono, sharing-comm, sharing-size}
 use Rattle.problem.proofs.RankingLaws.{key-total, precedes-weak}
 
 -- ---- who is among the pairs
@@ -124,23 +120,22 @@ judged-no-worse p q h = no-worse-exactly (sharedCount p) (total p) (sharedCount 
     go (inl e) = weak-asym (total-weak key-total) _ _ e
     go (inr e) = ap (λ (l : List ℕ). lexBy ltb l (sharedCount p ∷ total p ∷ [])) (e .0) ∙ key-total .irrefl (sharedCount p ∷ total p ∷ [])
 
--- ---- routes with fewer risks share no more
+-- ---- routes exposed to no more share no more
 
-pub shared-mono : (p q : Pair) → ((b : ℕ) → bit (p .main .risks) b ≤ bit (q .main .risks) b) → ((b : ℕ) → bit (p .standby .risks) b ≤ bit (q .standby .risks) b) → sharedCount p ≤ sharedCount q
-unfolding sharedCount sharedRisks
-shared-mono p q f g =
-    ones-mono riskWidth (bitAnd (p .main .risks) (p .standby .risks)) (bitAnd (q .main .risks) (q .standby .risks)) (λ b. simp bit-and (omega (arith, f b, g b)))
+pub shared-mono : (p q : Pair) → Inside (p .main .exposure) (q .main .exposure) → Inside (p .standby .exposure) (q .standby .exposure) → sharedCount p ≤ sharedCount q
+unfolding sharedCount
+shared-mono p q f g = sharing-mono (p .main .exposure) (p .standby .exposure) (q .main .exposure) (q .standby .exposure) f g
 
 -- the shared count is the size of the common risk set: how many of the 64 risks are on both routes
-pub shared-size : (p : Pair) → sharedCount p ≡ length (inBoth riskWidth (p .main .risks) (p .standby .risks))
-unfolding sharedCount sharedRisks
-shared-size p = ones-common riskWidth (p .main .risks) (p .standby .risks)
+pub shared-size : (p : Pair) → sharedCount p ≡ length (inBoth riskWidth (p .main .exposure .risks) (p .standby .exposure .risks))
+unfolding sharedCount
+shared-size p = sharing-size (p .main .exposure) (p .standby .exposure)
 
 -- ---- the same two routes the other way round
 
 pub swap-shared : (m s : Route) → sharedCount (pair m s) ≡ sharedCount (pair s m)
-unfolding sharedCount sharedRisks
-swap-shared m s = ap (onesIn 64) (and-comm (m .risks) (s .risks))
+unfolding sharedCount
+swap-shared m s = sharing-comm (m .exposure) (s .exposure)
 
 pub swap-total : (m s : Route) → total (pair m s) ≡ total (pair s m)
 unfolding total
@@ -154,53 +149,26 @@ swap-judged m s e =
     (ap₂ (λ (a b : ℕ). a ∷ b ∷ []) (swap-shared s m) (swap-total s m))
     ∙ lex-lt (lexBy ltb) key-total (rankKey s) (rankKey m ∷ []) (rankKey m) (rankKey s ∷ []) e
 
--- ---- the best pair of a step
-
-module _ (routes : List Route) where
-  -- no pair with its main among the first j precedes best(j)
-  pub best-least : (j : ℕ) {m s : Route} → List·Memᴰ m (take j routes) → List·Memᴰ s routes → judged (pair m s) (best routes j) ≡ false
-  unfolding best
-  best-least j p q = first-least judged judged-weak (pair noRoute noRoute) (pairs-in p q)
-
-  -- best(j) is one of them
-  pub best-mem : {j : ℕ} → Step routes j → List·Memᴰ (best routes j .main) (take j routes) × List·Memᴰ (best routes j .standby) routes
-  unfolding best
-  best-mem {j} s =
-      let m = getD-take-mem noRoute j routes 0 (s .from-one) (omega arith) in
-      pairs-out (take j routes) routes (first-mem judged (pair noRoute noRoute) (pairs-in m (getD-mem noRoute routes 0 (omega arith))))
-
-  pub best-main : {j : ℕ} → Step routes j → List·Memᴰ (best routes j .main) routes
-  best-main {j} s = take-mem noRoute j (best-mem s .0)
-
-  -- with more mains the best pair is no worse
-  pub best-mono : {i j : ℕ} → Step routes i → i ≤ j → NoWorse (sharedCount (best routes j)) (total (best routes j)) (sharedCount (best routes i)) (total (best routes i))
-  best-mono {i} {j} s l =
-      let m = best-mem s in
-      judged-no-worse (best routes j) (best routes i) (best-least j (take-more noRoute routes l (m .0)) (m .1))
-
 -- ---- the floor
 
-pub common-le : (routes : List Route) {r : Route} (b : ℕ) → List·Memᴰ r routes → bit (commonRisks routes) b ≤ bit (r .risks) b
-unfolding commonRisks
-common-le [] b m = absurd (List·Memᴰ·not-nil m)
-common-le (s ∷ routes) b (List·Memᴰ·head e) = rw (bit-and, e) (omega arith)
-common-le (s ∷ routes) b (List·Memᴰ·tail m) = rw bit-and (omega (arith, common-le routes b m))
+pub every-inside : (routes : List Route) {r : Route} → List·Memᴰ r routes → Inside (onEvery routes) (r .exposure)
+unfolding onEvery
+every-inside [] m b = absurd (List·Memᴰ·not-nil m)
+every-inside (s ∷ routes) (List·Memᴰ·head e) b = rw (exposed-common, e) (omega arith)
+every-inside (s ∷ routes) (List·Memᴰ·tail m) b = rw exposed-common (omega (arith, every-inside routes m b))
 
--- all of the lowest d bits
-bit-full : (d r : ℕ) → r < d → bit (2 ^ d - 1) r ≡ 1
-bit-full zero r h = absurd (omega arith)
-bit-full (suc d) zero h = rw (bit-zero, pow-suc) (omega (arith, pow-pos d))
-bit-full (suc d) (suc r) h =
-    let half : (2 ^ suc d - 1) / 2 ≡ 2 ^ d - 1 = rw pow-suc (omega arith) in
-    rw (bit-suc, half) (bit-full d r (omega arith))
+-- what each route is exposed to lies on every route
+pub every-all : (routes : List Route) (b : ℕ) → b < mostShared → ((r : Route) → List·Memᴰ r routes → exposed (r .exposure) b ≡ 1) → exposed (onEvery routes) b ≡ 1
+unfolding onEvery
+every-all [] b h f = exposed-all b h
+every-all (r ∷ routes) b h f = rw exposed-common (omega (arith, f r (List·Memᴰ·head refl), every-all routes b h (λ s m. f s (List·Memᴰ·tail m))))
 
--- a risk that is on each route is on every route
-pub common-all : (routes : List Route) (b : ℕ) → b < 64 → ((r : Route) → List·Memᴰ r routes → bit (r .risks) b ≡ 1) → bit (commonRisks routes) b ≡ 1
-unfolding commonRisks
-common-all [] b h f = bit-full 64 b h
-common-all (r ∷ routes) b h f = rw bit-and (omega (arith, f r (List·Memᴰ·head refl), common-all routes b h (λ s m. f s (List·Memᴰ·tail m))))
+pub every-inside-all : (routes : List Route) → Inside (onEvery routes) toAll
+unfolding onEvery
+every-inside-all [] b = omega arith
+every-inside-all (r ∷ routes) b = rw exposed-common (omega (arith, every-inside-all routes b))
 
 -- the floor is at most the shared count of any pair
 pub floor-le : (routes : List Route) {m s : Route} → List·Memᴰ m routes → List·Memᴰ s routes → floor routes ≤ sharedCount (pair m s)
-unfolding floor sharedCount sharedRisks
-floor-le routes {m} {s} p q = ones-mono 64 (commonRisks routes) (bitAnd (m .risks) (s .risks)) (λ b. rw bit-and (omega (arith, common-le routes b p, common-le routes b q)))
+unfolding floor sharedCount sharing
+floor-le routes {m} {s} p q = size-mono (onEvery routes) (common (m .exposure) (s .exposure)) (λ b. rw exposed-common (omega (arith, every-inside routes p b, every-inside routes q b)))

@@ -14,10 +14,11 @@ use borrow.Author.Tests.{ltb-true, ltb-false}
 use Rattle.laws.specs.Choosing.{Pairwise, lexBy}
 use Rattle.laws.specs.Sets.{inBoth}
 use Rattle.problem.specs.declared.Arc.{Arc}
+use Rattle.problem.specs.declared.Request.{Request}
 use Rattle.problem.specs.Table.{riskWidth, mostAllowance, replySize, Bytes, arcsOf}
 use Rattle.problem.specs.Routes.{Route, metresOf, routeOf, precedes}
-use Rattle.problem.specs.Pairs.{Pair, pair, sharedRisks, sharedCount, total, judged, NoWorse, Step, ofRank, rankedKey, floor, leastSettled, ranked}
-use Rattle.problem.specs.Reply.{Request, answer, after, verdictIn, sharedIn, floorIn, rankedIn, mainMetresIn, standbyMetresIn, totalIn, sharedRisksIn, mainIn, standbyIn}
+use Rattle.problem.specs.Pairs.{Pair, pair, sharedRisks, sharedCount, total, judged, NoWorse, Step, ofRank, rankedKey, floor, every, leastSettled, ranked}
+use Rattle.problem.specs.Reply.{meshOf, answer, after, verdictIn, sharedIn, floorIn, rankedIn, mainMetresIn, standbyMetresIn, totalIn, sharedRisksIn, mainIn, standbyIn}
 use Rattle.problem.specs.Printed.{kilometres, text, printed, requestOf, Unreadable, output}
 use Rattle.problem.specs.Calls.{routesOf, RouteOf, WayOf, pairMadeOf, pairSaid, allowing, Applies}
 use Rattle.problem.proofs.RankingLaws.{ranking-exact, ranking-strict}
@@ -87,7 +88,7 @@ module _ (table : List ℕ) (q : Request) (size : ℕ) where
 
   -- the ranking puts each route before all later ones, and the judgement of pairs is that of shared count, total, rank of the main, rank of the standby
   pub ranking-in-order : Pairwise (λ (r s : Route). precedes r s ≡ true) routes
-  ranking-in-order = ranking-strict arcs (q .source) (q .terminal) (q .reach)
+  ranking-in-order = ranking-strict (meshOf table q)
 
   pub judged-by-rank : {m s m′ s′ : ℕ} → Step routes m → Step routes s → Step routes m′ → Step routes s′
       → judged (pair (ofRank routes m) (ofRank routes s)) (pair (ofRank routes m′) (ofRank routes s′)) ≡ lexBy ltb (rankedKey routes m s) (rankedKey routes m′ s′)
@@ -100,7 +101,7 @@ module _ (table : List ℕ) (q : Request) (size : ℕ) where
     -- the ranking has every route and nothing else
     pub ranking-has : (ks : List ℕ) → List·Memᴰ (routeOf arcs ks) routes ↔ RouteOf table q ks
     ranking-has ks =
-        ranking-exact arcs (q .source) (q .terminal) (q .reach) (sound-heads arcs (w .passed .sound)) (omega (arith, w .passed .source-node)) ks
+        ranking-exact (meshOf table q) (sound-heads arcs (w .passed .checked .sound)) (w .passed .checked .source-node) ks
 
     -- the arc numbers in the bytes are routes
     pub reply-routes : RouteOf table q (mainIn reply) × RouteOf table q (standbyIn reply)
@@ -146,7 +147,7 @@ module _ (table : List ℕ) (q : Request) (size : ℕ) where
     pub floor-said : floorIn reply ≡ floor routes
     floor-said = Said.floor-in w
 
-    pub ranked-said : rankedIn reply ≡ min (leastSettled routes) (q .allowance)
+    pub ranked-said : rankedIn reply ≡ min (leastSettled every routes) (q .allowance)
     unfolding ranked
     ranked-said = Said.ranked-in w
 
@@ -156,10 +157,10 @@ module _ (table : List ℕ) (q : Request) (size : ℕ) where
     settled-exactly = rw (Said.said-is w, Said.ranked-in w) (Said.settled-tests w)
 
     -- exactly where J is within the allowance; else stopped
-    pub settled-within : (number ≡ 0) ↔ (leastSettled routes ≤ q .allowance)
+    pub settled-within : (number ≡ 0) ↔ (leastSettled every routes ≤ q .allowance)
     settled-within = Said.settled-number w
 
-    pub stopped-past : (number ≡ 1) ↔ (q .allowance < leastSettled routes)
+    pub stopped-past : (number ≡ 1) ↔ (q .allowance < leastSettled every routes)
     stopped-past = Said.stopped-number w
 
     -- settled: no two ways within reach, loops or the same way twice allowed, share fewer, or as many at a smaller total
@@ -187,7 +188,7 @@ module _ (table : List ℕ) (q : Request) (size : ℕ) where
 -- ==== Of any pair, and of any length
 
 -- the shared count is the size of the common risk set: of the 64 risks, how many are on both routes
-pub shared-size : (p : Pair) → sharedCount p ≡ length (inBoth riskWidth (p .main .risks) (p .standby .risks))
+pub shared-size : (p : Pair) → sharedCount p ≡ length (inBoth riskWidth (p .main .exposure .risks) (p .standby .exposure .risks))
 shared-size = PairLaws.shared-size
 
 -- no worse, in shared count and total, exactly where the other does not share fewer, or as many at a smaller total

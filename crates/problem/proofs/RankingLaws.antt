@@ -14,8 +14,8 @@ use Rattle.laws.proofs.ListLaws.{pairwise-map, pairwise-keep, keep-in, keep-out
 use Rattle.laws.proofs.OrderLaws.{Total, Weak, total-weak, keyed-weak, ltb-total, lex-total, lex-true}
 use Rattle.laws.proofs.SortLaws.{Strict, sort-mem, sort-strict, keep-beginning}
 use Rattle.problem.specs.declared.Arc.{Arc}
-use Rattle.problem.specs.Table.{mostArcs}
-use Rattle.problem.specs.Routes.{arcAt, metresOf, Way, IsRoute, grow, Route, routeOf, routesFrom, rankKey, precedes, within, ranking}
+use Rattle.problem.specs.Table.{lastNode, mostArcs}
+use Rattle.problem.specs.Routes.{Mesh, arcAt, metresOf, Way, IsRoute, paths, Route, routeOf, routesFrom, rankKey, precedes, within, ranking}
 use Rattle.problem.proofs.RouteLaws.{Grown, grow-out, grow-in, grow-distinct, grown-exact, grown-short, grown-no-beginning, unmet-source}
 
 -- ---- the order of routes
@@ -44,55 +44,64 @@ precedes-metres r s e = go (lex-true ltb ltb-total _ _ _ _ e)
 
 -- every head is one of the 32 nodes, as check 9 has it
 abbrev pub LowHeads : List Arc → Type 0
-LowHeads arcs = (k : ℕ) → k < length arcs → arcAt arcs k .head < 32
+LowHeads arcs = (k : ℕ) → k < length arcs → arcAt arcs k .head ≤ lastNode
 
-module _ (arcs : List Arc) (source terminal reach : ℕ) where
-  -- who stands in the ranking: a route of the definition, with its length and its risks
+module _ (m : Mesh) where
+  -- who stands in the ranking: a route of the definition, with its length and what it is exposed to
   pub record Listed (r : Route) : Type 0 where
     pub list : List ℕ
-    pub is : r ≡ routeOf arcs list
-    pub route : IsRoute arcs source terminal reach list
+    pub is : r ≡ routeOf (m .arcs) list
+    pub route : IsRoute m list
 
-  pub ranking-out : {r : Route} → List·Memᴰ r (ranking arcs source terminal reach) → Listed r
-  unfolding ranking routesFrom within routeOf
-  ranking-out {r} m =
-      let k = keep-out (within reach) (routesFrom arcs terminal source) (sort-mem precedes _ r .1 m) in
-      let o = Memᴰ·of-map (routeOf arcs) (grow arcs terminal mostArcs (with 0 source) source) (k .0) in
-      let g = grown-exact arcs terminal source (o .0) .0 (grow-out arcs terminal mostArcs (with 0 source) source (o .0) (o .1)) in
+  -- those of all paths that fit the reach
+  pub ranking-among : {r : Route} → List·Memᴰ r (ranking m) ↔ (List·Memᴰ r (routesFrom (m .arcs) (m .terminal) (m .source)) × (within (m .reach) r ≡ true))
+  unfolding ranking
+  ranking-among {r} =
+      let all = routesFrom (m .arcs) (m .terminal) (m .source) in
+      (λ x. keep-out (within (m .reach)) all (sort-mem precedes _ r .1 x), λ p. sort-mem precedes _ r .0 (keep-in (within (m .reach)) all (p .0) (p .1)))
+
+  pub ranking-out : {r : Route} → List·Memᴰ r (ranking m) → Listed r
+  unfolding routesFrom within routeOf
+  ranking-out {r} x =
+      let k = ranking-among .0 x in
+      let o = Memᴰ·of-map (routeOf (m .arcs)) (paths m) (k .0) in
+      let g = grown-exact (m .arcs) (m .terminal) (m .source) (o .0) .0 (grow-out (m .arcs) (m .terminal) mostArcs (with 0 (m .source)) (m .source) (o .0) (o .1)) in
       record { list = o .0; is = sym (o .2); route = record { way = g .0; no-node-twice = g .1; within-reach = short (o .0) (o .2) (k .1) } }
     where
-      short : (l : List ℕ) → routeOf arcs l ≡ r → within reach r ≡ true → metresOf arcs l ≤ reach
-      short l e w = omega (arith, leb-true (r .metres) reach w, ap (λ (s : Route). s .metres) e)
+      short : (l : List ℕ) → routeOf (m .arcs) l ≡ r → within (m .reach) r ≡ true → metresOf (m .arcs) l ≤ m .reach
+      short l e w = omega (arith, leb-true (r .metres) (m .reach) w, ap (λ (s : Route). s .metres) e)
 
-  pub ranking-in : LowHeads arcs → source < 32 → {ks : List ℕ} → IsRoute arcs source terminal reach ks → List·Memᴰ (routeOf arcs ks) (ranking arcs source terminal reach)
-  unfolding ranking routesFrom within routeOf
+  pub ranking-in : LowHeads (m .arcs) → m .source ≤ lastNode → {ks : List ℕ} → IsRoute m ks → List·Memᴰ (routeOf (m .arcs) ks) (ranking m)
+  unfolding routesFrom within routeOf
   ranking-in low s {ks} r =
-      let g = grown-exact arcs terminal source ks .1 (r .way, r .no-node-twice) in
-      let m = grow-in arcs terminal mostArcs (omega (arith, grown-short arcs terminal low g, unmet-source source s)) g in
-      sort-mem precedes _ _ .0 (keep-in (within reach) (routesFrom arcs terminal source) (Memᴰ·map (routeOf arcs) m) (le-leb (metresOf arcs ks) reach (r .within-reach)))
+      let g = grown-exact (m .arcs) (m .terminal) (m .source) ks .1 (r .way, r .no-node-twice) in
+      let x = grow-in (m .arcs) (m .terminal) mostArcs (omega (arith, grown-short (m .arcs) (m .terminal) low g, unmet-source (m .source) s)) g in
+      ranking-among .1 (Memᴰ·map (routeOf (m .arcs)) x, le-leb (metresOf (m .arcs) ks) (m .reach) (r .within-reach))
 
   -- the listed routes are exactly the routes of the definition
-  pub ranking-exact : LowHeads arcs → source < 32 → (ks : List ℕ) → List·Memᴰ (routeOf arcs ks) (ranking arcs source terminal reach) ↔ IsRoute arcs source terminal reach ks
+  pub ranking-exact : LowHeads (m .arcs) → m .source ≤ lastNode → (ks : List ℕ) → List·Memᴰ (routeOf (m .arcs) ks) (ranking m) ↔ IsRoute m ks
   unfolding routeOf
-  ranking-exact low s ks = (λ m. from (ranking-out m), λ r. ranking-in low s r)
+  ranking-exact low s ks = (λ x. from (ranking-out x), λ r. ranking-in low s r)
     where
-      from : Listed (routeOf arcs ks) → IsRoute arcs source terminal reach ks
-      from o = subst (λ (l : List ℕ). IsRoute arcs source terminal reach l) (sym (ap (λ (r : Route). r .arcs) (o .is))) (o .route)
+      from : Listed (routeOf (m .arcs) ks) → IsRoute m ks
+      from o = subst (λ (l : List ℕ). IsRoute m l) (sym (ap (λ (r : Route). r .arcs) (o .is))) (o .route)
 
   -- no two stand at one place, so each stands before all later ones
-  pub ranking-strict : Strict precedes (ranking arcs source terminal reach)
+  pub ranking-strict : Strict precedes (ranking m)
   unfolding ranking routesFrom routeOf
-  ranking-strict = sort-strict precedes precedes-weak (pairwise-keep (within reach) (pairwise-map (routeOf arcs) untied (grow-distinct arcs terminal mostArcs (with 0 source) source)))
+  ranking-strict =
+      sort-strict precedes precedes-weak
+      (pairwise-keep (within (m .reach)) (pairwise-map (routeOf (m .arcs)) untied (grow-distinct (m .arcs) (m .terminal) mostArcs (with 0 (m .source)) (m .source))))
     where
-      untied : (a b : List ℕ) → (a ≡ b → ⊥) → (s : Route) → routeOf arcs b ≡ s → precedes (routeOf arcs a) s ≡ false → precedes s (routeOf arcs a) ≡ true
-      untied a b ne s e p = go (precedes s (routeOf arcs a)) refl
+      untied : (a b : List ℕ) → (a ≡ b → ⊥) → (s : Route) → routeOf (m .arcs) b ≡ s → precedes (routeOf (m .arcs) a) s ≡ false → precedes s (routeOf (m .arcs) a) ≡ true
+      untied a b ne s e p = go (precedes s (routeOf (m .arcs) a)) refl
         where
-          go : (t : Bool) → precedes s (routeOf arcs a) ≡ t → precedes s (routeOf arcs a) ≡ true
+          go : (t : Bool) → precedes s (routeOf (m .arcs) a) ≡ t → precedes s (routeOf (m .arcs) a) ≡ true
           go true q = q
-          go false q = absurd (ne (precedes-tri (routeOf arcs a) s p q ∙ ap (λ (x : Route). x .arcs) (sym e)))
+          go false q = absurd (ne (precedes-tri (routeOf (m .arcs) a) s p q ∙ ap (λ (x : Route). x .arcs) (sym e)))
 
   -- the routes no longer than x are a beginning of the ranking
-  pub ranking-beginning : (x : ℕ) → keep (within x) (ranking arcs source terminal reach) ≡ take (length (keep (within x) (ranking arcs source terminal reach))) (ranking arcs source terminal reach)
+  pub ranking-beginning : (x : ℕ) → keep (within x) (ranking m) ≡ take (length (keep (within x) (ranking m))) (ranking m)
   unfolding within
   ranking-beginning x = keep-beginning precedes (within x) ranking-strict down
     where
@@ -100,19 +109,19 @@ module _ (arcs : List Arc) (source terminal reach : ℕ) where
       down a b p w = le-leb (a .metres) x (omega (arith, precedes-metres a b p, leb-true (b .metres) x w))
 
   -- a route has 1 to 31 arcs
-  pub route-some : (source ≡ terminal → ⊥) → {ks : List ℕ} → IsRoute arcs source terminal reach ks → 1 ≤ length ks
+  pub route-some : (m .source ≡ m .terminal → ⊥) → {ks : List ℕ} → IsRoute m ks → 1 ≤ length ks
   route-some ne {ks} r = go (r .way)
     where
-      go : {ls : List ℕ} → Way arcs source terminal ls → 1 ≤ length ls
+      go : {ls : List ℕ} → Way (m .arcs) (m .source) (m .terminal) ls → 1 ≤ length ls
       go (Way.there e) = absurd (ne e)
       go (Way.over b t w) = omega arith
 
-  pub route-short : LowHeads arcs → source < 32 → {ks : List ℕ} → IsRoute arcs source terminal reach ks → length ks ≤ mostArcs
+  pub route-short : LowHeads (m .arcs) → m .source ≤ lastNode → {ks : List ℕ} → IsRoute m ks → length ks ≤ mostArcs
   route-short low s {ks} r =
-      omega (arith, grown-short arcs terminal low (grown-exact arcs terminal source ks .1 (r .way, r .no-node-twice)), unmet-source source s)
+      omega (arith, grown-short (m .arcs) (m .terminal) low (grown-exact (m .arcs) (m .terminal) (m .source) ks .1 (r .way, r .no-node-twice)), unmet-source (m .source) s)
 
   -- no route is the beginning of another
-  pub route-no-beginning : {ks ls more : List ℕ} → IsRoute arcs source terminal reach ks → IsRoute arcs source terminal reach ls → ls ≡ ks ++ more → more ≡ []
+  pub route-no-beginning : {ks ls more : List ℕ} → IsRoute m ks → IsRoute m ls → ls ≡ ks ++ more → more ≡ []
   route-no-beginning {ks} {ls} {more} r s e =
-      grown-no-beginning arcs terminal more (grown-exact arcs terminal source ks .1 (r .way, r .no-node-twice))
-      (subst (λ (l : List ℕ). Grown arcs terminal (with 0 source) source l) e (grown-exact arcs terminal source ls .1 (s .way, s .no-node-twice)))
+      grown-no-beginning (m .arcs) (m .terminal) more (grown-exact (m .arcs) (m .terminal) (m .source) ks .1 (r .way, r .no-node-twice))
+      (subst (λ (l : List ℕ). Grown (m .arcs) (m .terminal) (with 0 (m .source)) (m .source) l) e (grown-exact (m .arcs) (m .terminal) (m .source) ls .1 (s .way, s .no-node-twice)))

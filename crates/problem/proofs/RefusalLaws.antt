@@ -10,11 +10,11 @@ use lib.ListN.{length}
 use borrow.Author.Tests.{ltb-true, ltb-false, eqb-true, eqb-false, not-true, not-false}
 use Rattle.laws.specs.Choosing.{if_then_else_}
 use Rattle.laws.proofs.BoolLaws.{or-cases, neither}
-use Rattle.problem.specs.Table.{lastNode, mostReach, mostAllowance, mostTableBytes, replySize, arcsOf, arcsNumber}
-use Rattle.problem.specs.Reply.{Request, refusal}
+use Rattle.problem.specs.declared.Request.{Request}
+use Rattle.problem.specs.Table.{lastNode, mostReach, mostAllowance, mostTableBytes, replySize, arcsOf, arcsNumber, allSound}
+use Rattle.problem.specs.Reply.{firstNumber, sizeChecks, requestChecks, arcChecks, refusal, Passed}
 use Rattle.problem.specs.Calls.{RouteOf, chosen, Applies}
 use Rattle.problem.proofs.TableLaws.{number-unsound, number-nine, sound-at}
-use Rattle.problem.proofs.ReplyLaws.{Passed}
 
 module _ (table : List ℕ) (q : Request) (size : ℕ) where
   -- no test of a smaller number holds
@@ -55,15 +55,16 @@ module _ (table : List ℕ) (q : Request) (size : ℕ) where
   row m true below holds fails on e = subst Told e (record { applies = holds refl; none-below = below })
   row m false below holds fails on e = on (none-next m below (fails refl)) e
 
-  arcs-row : {n : ℕ} → NoneBelow 9 → arcsNumber (arcsOf table) ≡ suc n → Told (suc n)
-  arcs-row below e =
+  arcs-row : {n : ℕ} (b : Bool) → allSound (arcsOf table) ≡ b → NoneBelow 9 → (if not b then arcsNumber (arcsOf table) else 0) ≡ suc n → Told (suc n)
+  arcs-row true s below e = absurd (omega arith)
+  arcs-row false s below e =
       let nine : arcsNumber (arcsOf table) ≡ 9 = number-nine (arcsOf table) (λ z. omega arith) in
       let u = number-unsound (arcsOf table) (λ z. omega arith) in
       subst Told (sym nine ∙ e) (record { applies = Applies.arc-out-of-range (u .0) (u .1) (u .2); none-below = below })
 
   -- a refusal by a check is that of the first whose test holds
   pub refusal-told : (n : ℕ) → refusal table q size ≡ suc n → Told (suc n)
-  unfolding refusal
+  unfolding refusal sizeChecks requestChecks arcChecks firstNumber
   refusal-told n e =
       row 2 (ltb mostTableBytes (length table)) (λ i l a. omega (arith, from-two a)) (λ t. Applies.table-too-long (ltb-true _ _ t)) long
       (λ below. row 3 (not (eqb (length table % 16) 0)) below (λ t. Applies.table-torn (eqb-false _ _ (not-true _ t))) torn
@@ -71,7 +72,7 @@ module _ (table : List ℕ) (q : Request) (size : ℕ) where
       (λ below. row 5 (ltb lastNode (q .source) || ltb lastNode (q .terminal)) below high no-high
       (λ below. row 6 (eqb (q .source) (q .terminal)) below (λ t. Applies.ends-equal (eqb-true _ _ t)) equal
       (λ below. row 7 (ltb mostReach (q .reach)) below (λ t. Applies.reach-too-far (ltb-true _ _ t)) far
-      (λ below. row 8 (eqb (q .allowance) 0 || ltb mostAllowance (q .allowance)) below allowed not-allowed arcs-row)))))) e
+      (λ below. row 8 (eqb (q .allowance) 0 || ltb mostAllowance (q .allowance)) below allowed not-allowed (arcs-row (allSound (arcsOf table)) refl))))))) e
     where
       long : ltb mostTableBytes (length table) ≡ false → Applies table q size 2 → ⊥
       long t (Applies.table-too-long h) = omega (arith, ltb-false mostTableBytes (length table) t)
@@ -109,16 +110,16 @@ module _ (table : List ℕ) (q : Request) (size : ℕ) where
     standby-too-long : mostReach < chosen table q .standby .metres → Later 11
 
   pub passed-later : Passed table q size → {i : ℕ} → Applies table q size i → Later i
-  passed-later p (Applies.table-too-long h) = absurd (omega (arith, p .few-bytes))
-  passed-later p (Applies.table-torn h) = absurd (h (p .whole-arcs))
+  passed-later p (Applies.table-too-long h) = absurd (omega (arith, p .checked .few-bytes))
+  passed-later p (Applies.table-torn h) = absurd (h (p .checked .whole-arcs))
   passed-later p (Applies.buffer-too-small h) = absurd (omega (arith, p .room))
-  passed-later p (Applies.source-too-high h) = absurd (omega (arith, p .source-node))
-  passed-later p (Applies.terminal-too-high h) = absurd (omega (arith, p .terminal-node))
-  passed-later p (Applies.ends-equal h) = absurd (p .ends-differ h)
-  passed-later p (Applies.reach-too-far h) = absurd (omega (arith, p .reach-range))
-  passed-later p (Applies.allowance-none h) = absurd (omega (arith, p .some-allowance))
-  passed-later p (Applies.allowance-too-large h) = absurd (omega (arith, p .allowance-range))
-  passed-later p (Applies.arc-out-of-range k b h) = absurd (h (sound-at (arcsOf table) (p .sound) k b))
+  passed-later p (Applies.source-too-high h) = absurd (omega (arith, p .checked .source-node))
+  passed-later p (Applies.terminal-too-high h) = absurd (omega (arith, p .checked .terminal-node))
+  passed-later p (Applies.ends-equal h) = absurd (p .checked .ends-differ h)
+  passed-later p (Applies.reach-too-far h) = absurd (omega (arith, p .checked .reach-range))
+  passed-later p (Applies.allowance-none h) = absurd (omega (arith, p .checked .some-allowance))
+  passed-later p (Applies.allowance-too-large h) = absurd (omega (arith, p .checked .allowance-range))
+  passed-later p (Applies.arc-out-of-range k b h) = absurd (h (sound-at (arcsOf table) (p .checked .sound) k b))
   passed-later p (Applies.no-route h) = Later.no-route h
   passed-later p (Applies.main-too-long h) = Later.main-too-long h
   passed-later p (Applies.standby-too-long h) = Later.standby-too-long h

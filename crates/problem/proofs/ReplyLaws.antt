@@ -11,38 +11,35 @@ use borrow.Author.Tests.{ltb-false, le-ltb, eqb-true, eqb-false, eq-eqb, ne-eqb,
 use Rattle.laws.specs.Choosing.{if_then_else_}
 use Rattle.laws.proofs.BoolLaws.{neither}
 use Rattle.problem.specs.declared.Arc.{Arc}
+use Rattle.problem.specs.declared.Request.{Request}
 use Rattle.problem.specs.Table.{lastNode, mostArcs, mostReach, mostAllowance, mostTableBytes, replySize, bytesOf, arcsOf, arcsNumber, allSound}
 use Rattle.problem.specs.Routes.{Route, routeOf}
-use Rattle.problem.specs.Pairs.{Step, Pair, sharedRisks, sharedCount, best, floor, ranked, verdict}
-use Rattle.problem.specs.Reply.{Request, Answer, refuse, placesOf, replyOf, verdictIn, sharedIn, floorIn, rankedIn, mainMetresIn, standbyMetresIn, sharedRisksIn, mainIn, standbyIn, refusal, planned, answerUnless, answer}
+use Rattle.problem.specs.Pairs.{Step, Pair, sharedRisks, sharedCount, floor, every, best, ranked, verdict}
+use Rattle.problem.specs.Reply.{meshOf, Answer, refuse, placesOf, replyOf, verdictIn, sharedIn, floorIn, rankedIn, mainMetresIn, standbyMetresIn, sharedRisksIn, mainIn, standbyIn, firstNumber, sizeChecks, requestChecks, arcChecks, refusal, Checked, Passed, planned, answerUnless, answer}
 use Rattle.problem.specs.Calls.{routesOf, chosen}
 use Rattle.problem.proofs.ByteLaws.{field-at}
-use Rattle.problem.proofs.TableLaws.{sound-at, sound-number, number-sound, number-nine}
+use Rattle.problem.proofs.TableLaws.{sound-at, number-sound, number-nine}
 use Rattle.problem.proofs.RankingLaws.{LowHeads, ranking-out}
-use Rattle.problem.proofs.PairLaws.{best-mem, best-main}
+use Rattle.problem.proofs.CandidateLaws.{best-in, best-main, every-some}
 use Rattle.problem.proofs.SettleLaws.{least-settled-step}
 
 -- ---- the checks
-
--- the checks 2 to 9, passed
-pub record Passed (table : List ℕ) (q : Request) (size : ℕ) : Type 0 where
-  pub few-bytes : length table ≤ mostTableBytes
-  pub whole-arcs : length table % 16 ≡ 0
-  pub room : replySize ≤ size
-  pub source-node : q .source ≤ lastNode
-  pub terminal-node : q .terminal ≤ lastNode
-  pub ends-differ : q .source ≡ q .terminal → ⊥
-  pub reach-range : q .reach ≤ mostReach
-  pub some-allowance : 0 < q .allowance
-  pub allowance-range : q .allowance ≤ mostAllowance
-  pub sound : allSound (arcsOf table) ≡ true
 
 not-first : (b : Bool) (n r : ℕ) → (if b then suc n else r) ≡ 0 → (b ≡ false) × (r ≡ 0)
 not-first true n r e = absurd (omega arith)
 not-first false n r e = (refl, e)
 
+-- of the arcs, the last check: where no number is told, all are sound
+arcs-passed : (table : List ℕ) → firstNumber (arcChecks table) ≡ 0 → allSound (arcsOf table) ≡ true
+unfolding firstNumber arcChecks
+arcs-passed table e = go (allSound (arcsOf table)) refl
+  where
+    go : (b : Bool) → allSound (arcsOf table) ≡ b → allSound (arcsOf table) ≡ true
+    go true f = f
+    go false f = number-sound (arcsOf table) (rw f at e)
+
 pub refusal-passed : (table : List ℕ) (q : Request) (size : ℕ) → refusal table q size ≡ 0 → Passed table q size
-unfolding refusal
+unfolding refusal sizeChecks requestChecks arcChecks firstNumber
 refusal-passed table q size e =
     let a = not-first (ltb mostTableBytes (length table)) 1 _ e in
     let b = not-first (not (eqb (length table % 16) 0)) 2 _ (a .1) in
@@ -54,51 +51,61 @@ refusal-passed table q size e =
     let nodes = neither (ltb lastNode (q .source)) (ltb lastNode (q .terminal)) (d .0) in
     let allowed = neither (eqb (q .allowance) 0) (ltb mostAllowance (q .allowance)) (h .0) in
     record {
-      few-bytes = ltb-false mostTableBytes (length table) (a .0);
-      whole-arcs = eqb-true (length table % 16) 0 (not-false _ (b .0));
+      checked = record {
+        few-bytes = ltb-false mostTableBytes (length table) (a .0);
+        whole-arcs = eqb-true (length table % 16) 0 (not-false _ (b .0));
+        source-node = ltb-false lastNode (q .source) (nodes .0);
+        terminal-node = ltb-false lastNode (q .terminal) (nodes .1);
+        ends-differ = eqb-false (q .source) (q .terminal) (f .0);
+        reach-range = ltb-false mostReach (q .reach) (g .0);
+        some-allowance = omega (arith, eqb-false (q .allowance) 0 (allowed .0));
+        allowance-range = ltb-false mostAllowance (q .allowance) (allowed .1);
+        sound = arcs-passed table (h .1);
+      };
       room = ltb-false size replySize (c .0);
-      source-node = ltb-false lastNode (q .source) (nodes .0);
-      terminal-node = ltb-false lastNode (q .terminal) (nodes .1);
-      ends-differ = eqb-false (q .source) (q .terminal) (f .0);
-      reach-range = ltb-false mostReach (q .reach) (g .0);
-      some-allowance = omega (arith, eqb-false (q .allowance) 0 (allowed .0));
-      allowance-range = ltb-false mostAllowance (q .allowance) (allowed .1);
-      sound = number-sound (arcsOf table) (h .1);
     }
 
 pub passed-refusal : {table : List ℕ} {q : Request} {size : ℕ} → Passed table q size → refusal table q size ≡ 0
-unfolding refusal
+unfolding refusal sizeChecks requestChecks arcChecks firstNumber
 passed-refusal {table} {q} {size} p =
+    let c = p .checked in
     rw (
-      le-ltb mostTableBytes (length table) (p .few-bytes),
-      eq-eqb (length table % 16) 0 (p .whole-arcs),
+      le-ltb mostTableBytes (length table) (c .few-bytes),
+      eq-eqb (length table % 16) 0 (c .whole-arcs),
       le-ltb size replySize (p .room),
-      le-ltb lastNode (q .source) (p .source-node),
-      le-ltb lastNode (q .terminal) (p .terminal-node),
-      ne-eqb (q .source) (q .terminal) (p .ends-differ),
-      le-ltb mostReach (q .reach) (p .reach-range),
-      ne-eqb (q .allowance) 0 (λ e. omega (arith, p .some-allowance)),
-      le-ltb mostAllowance (q .allowance) (p .allowance-range),
-      sound-number (arcsOf table) (p .sound),
+      le-ltb lastNode (q .source) (c .source-node),
+      le-ltb lastNode (q .terminal) (c .terminal-node),
+      ne-eqb (q .source) (q .terminal) (c .ends-differ),
+      le-ltb mostReach (q .reach) (c .reach-range),
+      ne-eqb (q .allowance) 0 (λ e. omega (arith, c .some-allowance)),
+      le-ltb mostAllowance (q .allowance) (c .allowance-range),
+      c .sound,
     )
 
 -- a refusal by these checks is one of 2 to 9
-refusal-range : (a b c d e f g : Bool) (m n : ℕ) → ((m ≡ 0 → ⊥) → m ≡ 9)
-    → (if a then 2 else (if b then 3 else (if c then 4 else (if d then 5 else (if e then 6 else (if f then 7 else (if g then 8 else m))))))) ≡ suc n → (2 ≤ suc n) × (suc n ≤ 9)
-refusal-range true b c d e f g m n nine p = omega arith
-refusal-range false true c d e f g m n nine p = omega arith
-refusal-range false false true d e f g m n nine p = omega arith
-refusal-range false false false true e f g m n nine p = omega arith
-refusal-range false false false false true f g m n nine p = omega arith
-refusal-range false false false false false true g m n nine p = omega arith
-refusal-range false false false false false false true m n nine p = omega arith
-refusal-range false false false false false false false m n nine p = omega (arith, nine (λ z. omega arith))
+abbrev Early : ℕ → Type 0
+Early n = (2 ≤ n) × (n ≤ 9)
 
-refusal-number : (table : List ℕ) (q : Request) (size n : ℕ) → refusal table q size ≡ suc n → (2 ≤ suc n) × (suc n ≤ 9)
-unfolding refusal
+-- one row of the order
+early-row : (m : ℕ) → Early m → (test : Bool) {next n : ℕ} → (next ≡ suc n → Early (suc n)) → (if test then m else next) ≡ suc n → Early (suc n)
+early-row m h true on e = omega (arith, h .0, h .1)
+early-row m h false on e = on e
+
+early-arcs : (table : List ℕ) (n : ℕ) (b : Bool) → allSound (arcsOf table) ≡ b → (if not b then arcsNumber (arcsOf table) else 0) ≡ suc n → Early (suc n)
+early-arcs table n true s e = absurd (omega arith)
+early-arcs table n false s e = omega (arith, number-nine (arcsOf table) (λ z. omega arith))
+
+refusal-number : (table : List ℕ) (q : Request) (size n : ℕ) → refusal table q size ≡ suc n → Early (suc n)
+unfolding refusal sizeChecks requestChecks arcChecks firstNumber
 refusal-number table q size n e =
-    refusal-range (ltb mostTableBytes (length table)) (not (eqb (length table % 16) 0)) (ltb size replySize) (ltb lastNode (q .source) || ltb lastNode (q .terminal))
-    (eqb (q .source) (q .terminal)) (ltb mostReach (q .reach)) (eqb (q .allowance) 0 || ltb mostAllowance (q .allowance)) (arcsNumber (arcsOf table)) n (number-nine (arcsOf table)) e
+    early-row 2 (omega arith) (ltb mostTableBytes (length table))
+    (early-row 3 (omega arith) (not (eqb (length table % 16) 0))
+    (early-row 4 (omega arith) (ltb size replySize)
+    (early-row 5 (omega arith) (ltb lastNode (q .source) || ltb lastNode (q .terminal))
+    (early-row 6 (omega arith) (eqb (q .source) (q .terminal))
+    (early-row 7 (omega arith) (ltb mostReach (q .reach))
+    (early-row 8 (omega arith) (eqb (q .allowance) 0 || ltb mostAllowance (q .allowance))
+    (early-arcs table n (allSound (arcsOf table)) refl))))))) e
 
 -- ---- how a call ends
 
@@ -106,8 +113,8 @@ refusal-number table q size n e =
 abbrev pub answered : List ℕ → Request → Answer
 answered table q =
     record {
-      number = verdict (routesOf table q) (q .allowance);
-      reply = replyOf (verdict (routesOf table q) (q .allowance)) (floor (routesOf table q)) (ranked (routesOf table q) (q .allowance)) (chosen table q);
+      number = verdict every (routesOf table q) (q .allowance);
+      reply = replyOf (verdict every (routesOf table q) (q .allowance)) (floor (routesOf table q)) (ranked every (routesOf table q) (q .allowance)) (chosen table q);
     }
 
 pub data Outcome (table : List ℕ) (q : Request) (size : ℕ) : Type 0 where
@@ -119,17 +126,17 @@ pub data Outcome (table : List ℕ) (q : Request) (size : ℕ) : Type 0 where
   with-pair : Passed table q size → 0 < length (routesOf table q) → answer table q size ≡ answered table q → Outcome table q size
 
 pub sound-heads : (arcs : List Arc) → allSound arcs ≡ true → LowHeads arcs
-sound-heads arcs h k l = omega (arith, sound-at arcs h k l .head-node)
+sound-heads arcs h k l = sound-at arcs h k l .head-node
 
-pub ranked-step : (routes : List Route) (allowance : ℕ) → 0 < length routes → 0 < allowance → Step routes (ranked routes allowance)
+pub ranked-step : (routes : List Route) (allowance : ℕ) → 0 < length routes → 0 < allowance → Step routes (ranked every routes allowance)
 unfolding ranked
-ranked-step routes allowance h a = let s = least-settled-step routes h in record { from-one = omega (arith, s .from-one); to-N = omega (arith, s .to-N) }
+ranked-step routes allowance h a = let s = least-settled-step every routes h in record { from-one = omega (arith, s .from-one); to-N = omega (arith, s .to-N) }
 
 -- every route of a call is within 62,000,000, so number 11 is never given
-pub route-range : {table : List ℕ} {q : Request} {size : ℕ} → Passed table q size → {r : Route} → List·Memᴰ r (routesOf table q) → r .metres ≤ mostReach
+pub route-range : {table : List ℕ} {q : Request} → Checked table q → {r : Route} → List·Memᴰ r (routesOf table q) → r .metres ≤ mostReach
 unfolding routeOf
 route-range {table} {q} p m =
-    let o = ranking-out (arcsOf table) (q .source) (q .terminal) (q .reach) m in
+    let o = ranking-out (meshOf table q) m in
     omega (arith, o .route .within-reach, p .reach-range, ap (λ (r : Route). r .metres) (o .is))
 
 planned-none : (routes : List Route) (allowance : ℕ) → length routes ≡ 0 → (routes ≡ []) × (planned routes allowance ≡ refuse 10)
@@ -137,10 +144,10 @@ unfolding planned
 planned-none [] allowance e = (refl, refl)
 planned-none (r ∷ routes) allowance e = absurd (omega arith)
 
-planned-some : (routes : List Route) (allowance : ℕ) → 0 < length routes → best routes (ranked routes allowance) .main .metres ≤ mostReach
-    → best routes (ranked routes allowance) .standby .metres ≤ mostReach
+planned-some : (routes : List Route) (allowance : ℕ) → 0 < length routes → best every routes (ranked every routes allowance) .main .metres ≤ mostReach
+    → best every routes (ranked every routes allowance) .standby .metres ≤ mostReach
     → planned routes allowance
-    ≡ record { number = verdict routes allowance; reply = replyOf (verdict routes allowance) (floor routes) (ranked routes allowance) (best routes (ranked routes allowance)) }
+    ≡ record { number = verdict every routes allowance; reply = replyOf (verdict every routes allowance) (floor routes) (ranked every routes allowance) (best every routes (ranked every routes allowance)) }
 unfolding planned
 planned-some [] allowance h m s = absurd (omega arith)
 planned-some (r ∷ routes) allowance h m s = rw (le-ltb mostReach _ m, le-ltb mostReach _ s)
@@ -153,9 +160,12 @@ outcome table q size = by-number (refusal table q size) refl
     by-length p zero e f = let o = planned-none (routesOf table q) (q .allowance) e in no-route p (o .0) (sym f ∙ o .1)
     by-length p (suc n) e f =
         let some : 0 < length (routesOf table q) = omega arith in
-        let s = ranked-step (routesOf table q) (q .allowance) some (p .some-allowance) in
+        let step = ranked every (routesOf table q) (q .allowance) in
+        let s = every-some (routesOf table q) (ranked-step (routesOf table q) (q .allowance) some (p .checked .some-allowance)) in
         with-pair p some
-        (sym f ∙ planned-some (routesOf table q) (q .allowance) some (route-range p (best-main (routesOf table q) s)) (route-range p (best-mem (routesOf table q) s .1)))
+        (sym f
+        ∙ planned-some (routesOf table q) (q .allowance) some (route-range (p .checked) (best-main every (routesOf table q) step s))
+        (route-range (p .checked) (best-in every (routesOf table q) step s .standby-in)))
 
     by-number : (n : ℕ) → refusal table q size ≡ n → Outcome table q size
     by-number zero e = by-length (refusal-passed table q size e) (length (routesOf table q)) refl (ap (λ (x : ℕ). answerUnless x table q) (sym e))

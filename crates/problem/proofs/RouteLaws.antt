@@ -14,6 +14,7 @@ use Rattle.laws.specs.Sets.{bit, with, unmet}
 use Rattle.laws.proofs.ListLaws.{pairwise-append, pairwise-map, pairwise-head, pairwise-tail}
 use Rattle.laws.proofs.SetLaws.{digit, bit-with, bit-single, bit-empty, unmet-empty, unmet-with}
 use Rattle.problem.specs.declared.Arc.{Arc}
+use Rattle.problem.specs.Table.{lastNode}
 use Rattle.problem.specs.Routes.{arcAt, nodesFrom, Way, opens, sprout, grow}
 
 -- ---- an arc that opens
@@ -166,10 +167,10 @@ module _ (arcs : List Arc) (terminal : ℕ) where
   grown-no-beginning (j ∷ l) (step b ne o g) (step b′ ne′ o′ h) = grown-no-beginning (j ∷ l) g h
 
   -- each arc leaves one node fewer unvisited
-  pub grown-short : ((k : ℕ) → k < length arcs → arcAt arcs k .head < 32) → {met at : ℕ} {ks : List ℕ} → Grown met at ks → length ks ≤ unmet 32 met
+  pub grown-short : ((k : ℕ) → k < length arcs → arcAt arcs k .head ≤ lastNode) → {met at : ℕ} {ks : List ℕ} → Grown met at ks → length ks ≤ unmet 32 met
   grown-short low (done e) = omega arith
   grown-short low {met} {at} (step {k = k} b ne o g) =
-      omega (arith, unmet-with 32 (arcAt arcs k .head) met (low k b) (opens-new met at (arcAt arcs k) o), grown-short low g)
+      omega (arith, unmet-with 32 (arcAt arcs k .head) met (omega (arith, low k b)) (opens-new met at (arcAt arcs k) o), grown-short low g)
 
   -- ---- what is grown is a way that meets no node twice, and the other way round
 
@@ -227,5 +228,5 @@ module _ (arcs : List Arc) (terminal : ℕ) where
   )
 
 -- 31 nodes besides the source
-pub unmet-source : (source : ℕ) → source < 32 → unmet 32 (with 0 source) ≡ 31
-unmet-source source low = omega (arith, unmet-with 32 source 0 low (bit-empty source), unmet-empty 32)
+pub unmet-source : (source : ℕ) → source ≤ lastNode → unmet 32 (with 0 source) ≡ 31
+unmet-source source low = omega (arith, unmet-with 32 source 0 (omega arith) (bit-empty source), unmet-empty 32)

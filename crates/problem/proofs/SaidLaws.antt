@@ -5,26 +5,28 @@ use mathlib.Core.Logic.{_⊎_, inl, inr, _↔_}
 use mathlib.Core.List.{List, List·Memᴰ}
 use Prim.Native.Nat.{ℕ, _+_, _*_, _≤_, _<_, _^_, min}
 use native.Mathlib.Omega.{arith}
-use lib.Bits.{and-lt}
 use lib.Dec.{ltb}
 use lib.ListN.{length, take}
 use borrow.Author.Tests.{ltb-true, ltb-false}
 use Rattle.laws.proofs.ListLaws.{take-more, take-mem, take-inside}
 use Rattle.laws.proofs.SortLaws.{Strict}
 use Rattle.problem.specs.declared.Arc.{Arc}
+use Rattle.problem.specs.declared.Request.{Request}
 use Rattle.problem.specs.Table.{mostArcs, riskWidth, mostAllowance, replySize, Bytes, arcsOf}
 use Rattle.problem.specs.Routes.{Route, metresOf, routeOf, precedes}
-use Rattle.problem.specs.Pairs.{Pair, pair, sharedRisks, sharedCount, total, judged, NoWorse, noRoute, ofRank, best, floor, settled, leastSettled, ranked, verdict}
-use Rattle.problem.specs.Reply.{Request, Answer, replyOf, answer, verdictIn, sharedIn, floorIn, rankedIn, mainMetresIn, standbyMetresIn, totalIn, sharedRisksIn, mainIn, standbyIn}
+use Rattle.problem.specs.Pairs.{Pair, pair, sharedRisks, sharedCount, total, judged, NoWorse, noRoute, ofRank, floor, every, best, settled, leastSettled, ranked, verdict}
+use Rattle.problem.specs.Reply.{meshOf, Answer, replyOf, answer, verdictIn, sharedIn, floorIn, rankedIn, mainMetresIn, standbyMetresIn, totalIn, sharedRisksIn, mainIn, standbyIn, Passed}
 use Rattle.problem.specs.Calls.{routesOf, RouteOf, WayOf, chosen, pairMadeOf, pairSaid, allowing}
+use Rattle.problem.proofs.ExposureLaws.{common-risks-below}
 use Rattle.problem.proofs.TableLaws.{risks-below}
 use Rattle.problem.proofs.RankingLaws.{Listed, ranking-out, ranking-strict, route-short}
-use Rattle.problem.proofs.PairLaws.{best-mem, best-main, best-least, judged-no-worse, shared-mono}
+use Rattle.problem.proofs.PairLaws.{judged-no-worse}
+use Rattle.problem.proofs.CandidateLaws.{best-in, best-main, best-least, every-even}
 use Rattle.problem.proofs.SettleLaws.{ByLength, settled-cases, settled-by, least-settled, least-settled-inside, main-not-after, settled-no-better}
-use Rattle.problem.proofs.WayLaws.{way-bettered}
+use Rattle.problem.proofs.WayLaws.{part-shared, part-total, way-route}
 use Rattle.problem.proofs.WindowLaws.{judged-same, J-le, best-allowed}
-use Rattle.problem.proofs.ReplyLaws.{Passed, sound-heads, route-range, reply-verdict, reply-shared, reply-floor, reply-ranked, reply-main-metres, reply-standby-metres, reply-shared-risks, reply-main, reply-standby, reply-length}
-use Rattle.problem.proofs.CallLaws.{WithPair, Verdict, verdict-cases, verdict-settled, verdict-stopped, verdict-small, some-route, pair-step}
+use Rattle.problem.proofs.ReplyLaws.{sound-heads, route-range, reply-verdict, reply-shared, reply-floor, reply-ranked, reply-main-metres, reply-standby-metres, reply-shared-risks, reply-main, reply-standby, reply-length}
+use Rattle.problem.proofs.CallLaws.{WithPair, Verdict, verdict-cases, verdict-settled, verdict-stopped, verdict-small, some-route, pair-step, some-pair}
 
 -- ---- shared count and total, compared
 
@@ -52,34 +54,34 @@ module _ {table : List ℕ} {q : Request} {size : ℕ} (w : WithPair table q siz
   reply = answer table q size .reply
 
   strict : Strict precedes routes
-  strict = ranking-strict arcs (q .source) (q .terminal) (q .reach)
+  strict = ranking-strict (meshOf table q)
 
   -- ---- the routes of the pair
 
   main-listed : List·Memᴰ (chosen table q .main) routes
-  main-listed = best-main routes (pair-step w)
+  main-listed = best-main every routes (ranked every routes (q .allowance)) (some-pair w)
 
   pub standby-listed : List·Memᴰ (chosen table q .standby) routes
-  standby-listed = best-mem routes (pair-step w) .1
+  standby-listed = best-in every routes (ranked every routes (q .allowance)) (some-pair w) .standby-in
 
   -- a listed route is a route of the definition, and is made of its own arc numbers
   listed-route : {r : Route} → List·Memᴰ r routes → RouteOf table q (r .arcs) × (routeOf arcs (r .arcs) ≡ r)
   unfolding routeOf
-  listed-route {r} m = go (ranking-out arcs (q .source) (q .terminal) (q .reach) m)
+  listed-route {r} m = go (ranking-out (meshOf table q) m)
     where
-      go : Listed arcs (q .source) (q .terminal) (q .reach) r → RouteOf table q (r .arcs) × (routeOf arcs (r .arcs) ≡ r)
+      go : Listed (meshOf table q) r → RouteOf table q (r .arcs) × (routeOf arcs (r .arcs) ≡ r)
       go o =
           let e : o .list ≡ r .arcs = ap (λ (s : Route). s .arcs) (sym (o .is)) in
           (subst (RouteOf table q) e (o .route), ap (routeOf arcs) (sym e) ∙ sym (o .is))
 
   listed-short : {r : Route} → List·Memᴰ r routes → length (r .arcs) ≤ mostArcs
   listed-short m =
-      route-short arcs (q .source) (q .terminal) (q .reach) (sound-heads arcs (w .passed .sound)) (omega (arith, w .passed .source-node)) (listed-route m .0)
+      route-short (meshOf table q) (sound-heads arcs (w .passed .checked .sound)) (w .passed .checked .source-node) (listed-route m .0)
 
   -- ---- the fields
 
   abbrev written : List ℕ
-  written = replyOf (verdict routes (q .allowance)) (floor routes) (ranked routes (q .allowance)) (chosen table q)
+  written = replyOf (verdict every routes (q .allowance)) (floor routes) (ranked every routes (q .allowance)) (chosen table q)
 
   reply-is : reply ≡ written
   reply-is = ap (λ (a : Answer). a .reply) (w .is)
@@ -96,15 +98,15 @@ module _ {table : List ℕ} {q : Request} {size : ℕ} (w : WithPair table q siz
   pub floor-in : floorIn reply ≡ floor routes
   floor-in = ap floorIn reply-is ∙ reply-floor _ _ _ (chosen table q)
 
-  pub ranked-in : rankedIn reply ≡ ranked routes (q .allowance)
+  pub ranked-in : rankedIn reply ≡ ranked every routes (q .allowance)
   unfolding ranked
-  ranked-in = ap rankedIn reply-is ∙ reply-ranked _ _ _ (chosen table q) (omega (arith, w .passed .allowance-range))
+  ranked-in = ap rankedIn reply-is ∙ reply-ranked _ _ _ (chosen table q) (omega (arith, w .passed .checked .allowance-range))
 
   main-metres-in : mainMetresIn reply ≡ chosen table q .main .metres
-  main-metres-in = ap mainMetresIn reply-is ∙ reply-main-metres _ _ _ (chosen table q) (omega (arith, route-range (w .passed) main-listed))
+  main-metres-in = ap mainMetresIn reply-is ∙ reply-main-metres _ _ _ (chosen table q) (omega (arith, route-range (w .passed .checked) main-listed))
 
   standby-metres-in : standbyMetresIn reply ≡ chosen table q .standby .metres
-  standby-metres-in = ap standbyMetresIn reply-is ∙ reply-standby-metres _ _ _ (chosen table q) (omega (arith, route-range (w .passed) standby-listed))
+  standby-metres-in = ap standbyMetresIn reply-is ∙ reply-standby-metres _ _ _ (chosen table q) (omega (arith, route-range (w .passed .checked) standby-listed))
 
   total-in : totalIn reply ≡ total (chosen table q)
   unfolding total
@@ -134,22 +136,22 @@ module _ {table : List ℕ} {q : Request} {size : ℕ} (w : WithPair table q siz
   pub said-risks : Bytes table → sharedRisksIn reply ≡ sharedRisks (pairSaid arcs reply)
   unfolding sharedRisks routeOf
   said-risks bytes =
-      let room : sharedRisks (pairSaid arcs reply) < 2 ^ riskWidth = and-lt riskWidth _ _ (risks-below table bytes (mainIn reply)) (risks-below table bytes (standbyIn reply)) in
+      let room : sharedRisks (pairSaid arcs reply) < 2 ^ riskWidth = common-risks-below riskWidth _ _ (risks-below table bytes (mainIn reply)) (risks-below table bytes (standbyIn reply)) in
       ap sharedRisksIn reply-is ∙ reply-shared-risks _ _ _ (chosen table q) (subst (λ (p : Pair). sharedRisks p < 2 ^ riskWidth) said-is room) ∙ ap sharedRisks (sym said-is)
 
   -- ---- among all pairs that the allowance admits
 
   -- the pair of the answer is best(allowance), or best(N) where the allowance is larger
-  all-allowed : chosen table q ≡ best routes (min (q .allowance) (length routes))
-  all-allowed = best-allowed routes strict (q .allowance) (w .some) (w .passed .some-allowance)
+  all-allowed : chosen table q ≡ best every routes (min (q .allowance) (length routes))
+  all-allowed = best-allowed every routes strict every-even (q .allowance) (w .some) (w .passed .checked .some-allowance)
 
   pub main-allowed : List·Memᴰ (chosen table q .main) (take (q .allowance) routes)
   unfolding ranked
-  main-allowed = let fewer : ranked routes (q .allowance) ≤ q .allowance = omega arith in take-more noRoute routes fewer (best-mem routes (pair-step w) .0)
+  main-allowed = let fewer : ranked every routes (q .allowance) ≤ q .allowance = omega arith in take-more noRoute routes fewer (best-in every routes (ranked every routes (q .allowance)) (some-pair w) .main-in)
 
   pub none-before : {m s : Route} → List·Memᴰ m (take (q .allowance) routes) → List·Memᴰ s routes → judged (pair m s) (chosen table q) ≡ false
   none-before {m} {s} x y =
-      ap (judged (pair m s)) all-allowed ∙ best-least routes (min (q .allowance) (length routes)) (take-inside noRoute (q .allowance) routes x) y
+      ap (judged (pair m s)) all-allowed ∙ best-least every routes (min (q .allowance) (length routes)) (take-inside noRoute (q .allowance) routes x) y refl
 
   -- every other one comes after it
   pub others-after : {m s : Route} → List·Memᴰ m (take (q .allowance) routes) → List·Memᴰ s routes → (pair m s ≡ chosen table q) ⊎ (judged (chosen table q) (pair m s) ≡ true)
@@ -160,93 +162,94 @@ module _ {table : List ℕ} {q : Request} {size : ℕ} (w : WithPair table q siz
       go false e = inl (judged-same routes strict (take-mem noRoute (q .allowance) x) y main-listed standby-listed (none-before x y) e)
 
   pub main-first : precedes (chosen table q .standby) (chosen table q .main) ≡ false
-  main-first = main-not-after routes strict (pair-step w)
+  main-first = main-not-after every routes strict every-even (ranked every routes (q .allowance)) (some-pair w)
 
   -- ---- the verdict
 
-  number-is : answer table q size .number ≡ verdict routes (q .allowance)
+  number-is : answer table q size .number ≡ verdict every routes (q .allowance)
   number-is = ap (λ (a : Answer). a .number) (w .is)
 
-  pub settled-number : (answer table q size .number ≡ 0) ↔ (leastSettled routes ≤ q .allowance)
+  pub settled-number : (answer table q size .number ≡ 0) ↔ (leastSettled every routes ≤ q .allowance)
   settled-number = (λ e. to e (verdict-cases routes (q .allowance)), λ h. number-is ∙ verdict-settled routes (q .allowance) h)
     where
-      to : answer table q size .number ≡ 0 → Verdict routes (q .allowance) → leastSettled routes ≤ q .allowance
+      to : answer table q size .number ≡ 0 → Verdict routes (q .allowance) → leastSettled every routes ≤ q .allowance
       to e (Verdict.settled-at l f) = l
       to e (Verdict.stopped-at l f) = absurd (omega (arith, number-is))
 
-  pub stopped-number : (answer table q size .number ≡ 1) ↔ (q .allowance < leastSettled routes)
+  pub stopped-number : (answer table q size .number ≡ 1) ↔ (q .allowance < leastSettled every routes)
   stopped-number = (λ e. to e (verdict-cases routes (q .allowance)), λ h. number-is ∙ verdict-stopped routes (q .allowance) h)
     where
-      to : answer table q size .number ≡ 1 → Verdict routes (q .allowance) → q .allowance < leastSettled routes
+      to : answer table q size .number ≡ 1 → Verdict routes (q .allowance) → q .allowance < leastSettled every routes
       to e (Verdict.settled-at l f) = absurd (omega (arith, number-is))
       to e (Verdict.stopped-at l f) = l
 
   pub enough : length routes ≤ q .allowance → answer table q size .number ≡ 0
-  enough h = settled-number .1 (omega (arith, least-settled-inside routes (w .some)))
+  enough h = settled-number .1 (omega (arith, least-settled-inside every routes (w .some)))
 
   -- the step replied is J
-  step-settled : answer table q size .number ≡ 0 → ranked routes (q .allowance) ≡ leastSettled routes
+  step-settled : answer table q size .number ≡ 0 → ranked every routes (q .allowance) ≡ leastSettled every routes
   unfolding ranked
   step-settled e = let h = settled-number .0 e in omega arith
 
-  settled-here : answer table q size .number ≡ 0 → settled routes (ranked routes (q .allowance)) ≡ true
-  settled-here e = ap (settled routes) (step-settled e) ∙ least-settled routes (w .some) .holds
+  settled-here : answer table q size .number ≡ 0 → settled every routes (ranked every routes (q .allowance)) ≡ true
+  settled-here e = ap (settled every routes) (step-settled e) ∙ least-settled every routes (w .some) .holds
 
   -- settled exactly where the step replied is N, or 01's two tests hold at it
   pub settled-tests : (answer table q size .number ≡ 0)
-      ↔ ((ranked routes (q .allowance) ≡ length routes) ⊎ ((sharedCount (chosen table q) ≡ floor routes) × (total (chosen table q) ≤ 2 * ofRank routes (ranked routes (q .allowance)) .metres)))
+      ↔ ((ranked every routes (q .allowance) ≡ length routes) ⊎ ((sharedCount (chosen table q) ≡ floor routes) × (total (chosen table q) ≤ 2 * ofRank routes (ranked every routes (q .allowance)) .metres)))
   unfolding ranked
-  settled-tests = (λ e. to (settled-cases routes (ranked routes (q .allowance)) (settled-here e)), from)
+  settled-tests = (λ e. to (settled-cases every routes (ranked every routes (q .allowance)) (settled-here e)), from)
     where
       Tests : Type 0
-      Tests = (sharedCount (chosen table q) ≡ floor routes) × (total (chosen table q) ≤ 2 * ofRank routes (ranked routes (q .allowance)) .metres)
+      Tests = (sharedCount (chosen table q) ≡ floor routes) × (total (chosen table q) ≤ 2 * ofRank routes (ranked every routes (q .allowance)) .metres)
 
-      to : (ranked routes (q .allowance) ≡ length routes) ⊎ ByLength routes (ranked routes (q .allowance)) → (ranked routes (q .allowance) ≡ length routes) ⊎ Tests
+      to : (ranked every routes (q .allowance) ≡ length routes) ⊎ ByLength every routes (ranked every routes (q .allowance)) → (ranked every routes (q .allowance) ≡ length routes) ⊎ Tests
       to (inl e) = inl e
       to (inr b) = inr (b .meets-floor, b .long-enough)
 
-      from : (ranked routes (q .allowance) ≡ length routes) ⊎ Tests → answer table q size .number ≡ 0
+      from : (ranked every routes (q .allowance) ≡ length routes) ⊎ Tests → answer table q size .number ≡ 0
       from (inl e) = enough (omega arith)
       from (inr t) =
           settled-number .1
-          (omega (arith, J-le routes strict (pair-step w) (settled-by routes (ranked routes (q .allowance)) (record { meets-floor = t .0; long-enough = t .1 }))))
+          (omega (arith, J-le every routes strict (pair-step w) (settled-by every routes (ranked every routes (q .allowance)) (record { some = some-pair w; meets-floor = t .0; long-enough = t .1 }))))
 
   -- ---- two ways within reach
 
   pub no-better-ways : answer table q size .number ≡ 0 → {u v : List ℕ} → WayOf table q u → WayOf table q v
       → NoWorse (sharedIn reply) (totalIn reply) (sharedCount (pairMadeOf arcs u v)) (total (pairMadeOf arcs u v))
-  unfolding total routeOf
   no-better-ways e {u} {v} x y =
-      let low = sound-heads arcs (w .passed .sound) in
-      let node : q .source < 32 = omega (arith, w .passed .source-node) in
-      let f = way-bettered arcs (q .source) (q .terminal) (q .reach) low node (x .way) (x .within-reach) in
-      let g = way-bettered arcs (q .source) (q .terminal) (q .reach) low node (y .way) (y .within-reach) in
+      let low = sound-heads arcs (w .passed .checked .sound) in
+      let node = w .passed .checked .source-node in
+      let f = way-route (meshOf table q) low node x in
+      let g = way-route (meshOf table q) low node y in
       no-worse-cast shared-in total-in refl refl
-      (no-worse-still (settled-no-better routes strict (pair-step w) (settled-here e) (f .ranked) (g .ranked))
-      (shared-mono (pair (f .route) (g .route)) (pairMadeOf arcs u v) (f .among) (g .among))
-      (omega (arith, f .shorter, g .shorter)))
+      (no-worse-still (settled-no-better every routes strict every-even (pair-step w) (settled-here e) (f .ranked) (g .ranked) refl)
+      (part-shared arcs (f .part) (g .part)) (part-total arcs (f .part) (g .part)))
 
 -- ---- two calls that differ in their allowance
 
 passed-allowing : {table : List ℕ} {q : Request} {size : ℕ} (b : ℕ) → Passed table q size → 0 < b → b ≤ mostAllowance → Passed table (allowing q b) size
 passed-allowing b p pos top =
+    let c = p .checked in
     record {
-      few-bytes = p .few-bytes;
-      whole-arcs = p .whole-arcs;
+      checked = record {
+        few-bytes = c .few-bytes;
+        whole-arcs = c .whole-arcs;
+        source-node = c .source-node;
+        terminal-node = c .terminal-node;
+        ends-differ = c .ends-differ;
+        reach-range = c .reach-range;
+        some-allowance = pos;
+        allowance-range = top;
+        sound = c .sound;
+      };
       room = p .room;
-      source-node = p .source-node;
-      terminal-node = p .terminal-node;
-      ends-differ = p .ends-differ;
-      reach-range = p .reach-range;
-      some-allowance = pos;
-      allowance-range = top;
-      sound = p .sound;
     }
 
 -- the second is answered too
 pub pair-allowing : {table : List ℕ} {q : Request} {size : ℕ} (b : ℕ) → WithPair table q size → q .allowance ≤ b → b ≤ mostAllowance → WithPair table (allowing q b) size
 pair-allowing {table} {q} {size} b w l top =
-    some-route table (allowing q b) size (passed-allowing b (w .passed) (omega (arith, w .passed .some-allowance)) top) (w .some)
+    some-route table (allowing q b) size (passed-allowing b (w .passed) (omega (arith, w .passed .checked .some-allowance)) top) (w .some)
 
 module _ {table : List ℕ} {q : Request} {size : ℕ} (w : WithPair table q size) (b : ℕ) (l : q .allowance ≤ b) (top : b ≤ mostAllowance) where
   abbrev larger : Answer
@@ -264,7 +267,7 @@ module _ {table : List ℕ} {q : Request} {size : ℕ} (w : WithPair table q siz
       ∙ sym (w .is)
     where
       by-step : ℕ → ℕ → Answer
-      by-step n r = record { number = n; reply = replyOf n (floor (routesOf table q)) r (best (routesOf table q) r) }
+      by-step n r = record { number = n; reply = replyOf n (floor (routesOf table q)) r (best every (routesOf table q) r) }
 
   pub no-later : judged (chosen table q) (chosen table (allowing q b)) ≡ false
   no-later = none-before (pair-allowing b w l top) (take-more noRoute (routesOf table q) l (main-allowed w)) (standby-listed w)

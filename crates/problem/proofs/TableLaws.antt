@@ -6,7 +6,6 @@ use Prim.Native.Nat.{ℕ, zero, suc, _+_, _*_, _/_, _^_, _≤_, _<_, suc-le-suc}
 use native.Mathlib.Nat.{not-suc-le-zero, le-of-suc-le-suc}
 use native.Mathlib.Numerals.{add-one}
 use native.Mathlib.Omega.{arith}
-use lib.Bits.{or-lt}
 use lib.Dec.{eqb, ltb}
 use lib.ListN.{length, take, drop, List·getD-eq-default}
 use lib.Seq.{drop-cons, drop-drop, drop-length}
@@ -16,8 +15,10 @@ use Rattle.problem.specs.declared.Arc.{Arc}
 use Rattle.problem.specs.declared.Fault.{Fault}
 use Rattle.problem.specs.declared.Fault.the-variants.{Sound, Node, EqualEnds, Length, Spare}
 use Rattle.problem.specs.Table.{lastNode, riskWidth, mostArcMetres, Bytes, arcOf, firstArcs, arcsOf, SoundArc, faultOf, faultNumber, arcsNumber, allSound}
-use Rattle.problem.specs.Routes.{arcAt, risksOf}
+use Rattle.problem.specs.Exposures.{toNothing, ofArc}
+use Rattle.problem.specs.Routes.{arcAt, exposureOf}
 use Rattle.problem.proofs.ByteLaws.{number-below, bytes-part}
+use Rattle.problem.proofs.ExposureLaws.{joined-risks-below}
 
 -- one arc for every 16 bytes
 length-first : (n : ℕ) (table : List ℕ) → length (firstArcs n table) ≡ n
@@ -57,10 +58,10 @@ module _ (table : List ℕ) (bytes : Bytes table) where
           omega (arith, ap (λ (a : Arc). a .risks) (arcs-at table k (omega arith)), number-below (take 16 (drop (16 * k) table)) (bytes-part (16 * k) 16 table bytes) 8 8)
       go false e = omega (arith, ap (λ (a : Arc). a .risks) (List·getD-eq-default (arcsOf table) (arcAt [] 0) {n = k} (omega (arith, arcs-length table, ltb-false k (length table / 16) e))))
 
-  pub risks-below : (ks : List ℕ) → risksOf (arcsOf table) ks < 2 ^ riskWidth
-  unfolding risksOf
+  pub risks-below : (ks : List ℕ) → exposureOf (arcsOf table) ks .risks < 2 ^ riskWidth
+  unfolding exposureOf toNothing ofArc
   risks-below [] = omega arith
-  risks-below (k ∷ ks) = or-lt riskWidth (arcAt (arcsOf table) k .risks) (risksOf (arcsOf table) ks) (arc-risks-below k) (risks-below ks)
+  risks-below (k ∷ ks) = joined-risks-below riskWidth (ofArc (arcAt (arcsOf table) k)) (exposureOf (arcsOf table) ks) (arc-risks-below k) (risks-below ks)
 
 -- the five tests of `faultOf`, all passed
 tests-passed : (t h e m s : Bool)

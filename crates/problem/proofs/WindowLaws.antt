@@ -14,18 +14,12 @@ use Rattle.laws.specs.Choosing.{lexBy, keep}
 use Rattle.laws.proofs.ListLaws.{Place, Early, mem-place, take-place, getD-mem, getD-take-mem, take-more, keep-in, keep-out, keep-none, pairwise-head, pairwise-tail, pairwise-at}
 use Rattle.laws.proofs.OrderLaws.{ltb-total, lex-false, lex-lt, lex-eq}
 use Rattle.laws.proofs.SortLaws.{Strict, place-order, place-unique, keep-beginning}
-use Rattle.problem.specs.Routes.{Route, rankKey, precedes, within}
-use Rattle.problem.specs.Pairs.{Pair, pair, sharedCount, total, judgeKey, judged, NoWorse, noRoute, Step, best, settledByLength, settled, leastSettled, ranked}
+use Rattle.problem.specs.Routes.{Route, rankKey, precedes, within, count, shorter}
+use Rattle.problem.specs.Pairs.{Pair, pair, sharedCount, total, judgeKey, judged, NoWorse, noRoute, Step, someAt, best, settledByLength, settled, leastSettled, ranked}
 use Rattle.problem.proofs.RankingLaws.{key-total, precedes-weak, precedes-metres}
-use Rattle.problem.proofs.PairLaws.{judge-total, best-least, best-mem, best-main, best-mono, floor-le}
+use Rattle.problem.proofs.PairLaws.{judge-total, floor-le}
+use Rattle.problem.proofs.CandidateLaws.{Even, some-with, some-more, best-least, best-in, best-main, best-mono}
 use Rattle.problem.proofs.SettleLaws.{ByLength, settled-cases, settled-by, least-settled, least-settled-inside, least-settled-step, metres-mono, by-length-mono, settled-mono, main-not-after}
-
--- how many pass a test
-abbrev pub count : (Route → Bool) → List Route → ℕ
-count test routes = length (keep test routes)
-
-abbrev pub shorter : ℕ → Route → Bool
-shorter x r = ltb (r .metres) x
 
 -- half a pair's total, rounded up
 abbrev pub half : Pair → ℕ
@@ -141,16 +135,6 @@ module _ (routes : List Route) (strict : Strict precedes routes) where
         let x = keep-place (within hi) (within-down hi) m in
         rw (x .is) (metres-mono routes strict (x .at) (count (within hi) routes - 1) (omega (arith, x .early)) (omega (arith, x .early, count-inside (within hi) (within-down hi))))
 
-  -- ---- the best pair
-
-  main-metres : {j : ℕ} → Step routes j → best routes j .main .metres ≤ best routes j .standby .metres
-  main-metres {j} step = not-precedes-metres (best routes j .main) (best routes j .standby) (main-not-after routes strict step)
-
-  -- the main has at most half the total
-  pub main-half : {j : ℕ} → Step routes j → best routes j .main .metres ≤ half (best routes j)
-  unfolding total
-  main-half step = omega (arith, main-metres step)
-
   -- two pairs of routes that neither is judged before the other are one
   pub judged-same : {m s m′ s′ : Route} → List·Memᴰ m routes → List·Memᴰ s routes → List·Memᴰ m′ routes → List·Memᴰ s′ routes
       → judged (pair m s) (pair m′ s′) ≡ false → judged (pair m′ s′) (pair m s) ≡ false → pair m s ≡ pair m′ s′
@@ -160,79 +144,90 @@ module _ (routes : List Route) (strict : Strict precedes routes) where
       let f = tail-eq-of-cons-eq e in
       ap₂ pair (route-unique a c (head-eq-of-cons-eq f)) (route-unique b d (head-eq-of-cons-eq (tail-eq-of-cons-eq f)))
 
+module _ (ok : Pair → Bool) (routes : List Route) (strict : Strict precedes routes) where
+  -- ---- the best pair
+
+  main-metres : Even ok → (j : ℕ) → someAt ok routes j ≡ true → best ok routes j .main .metres ≤ best ok routes j .standby .metres
+  main-metres even j some = not-precedes-metres (best ok routes j .main) (best ok routes j .standby) (main-not-after ok routes strict even j some)
+
+  -- the main has at most half the total
+  pub main-half : Even ok → (j : ℕ) → someAt ok routes j ≡ true → best ok routes j .main .metres ≤ half (best ok routes j)
+  unfolding total
+  main-half even j some = omega (arith, main-metres even j some)
+
   -- with its main among the first i, the best pair of j is that of i
-  pub best-same : {i j : ℕ} → Step routes j → i ≤ j → List·Memᴰ (best routes j .main) (take i routes) → best routes i ≡ best routes j
-  best-same {i} {j} step l m =
-      let x = take-place noRoute i routes m in
-      let early : Step routes i = record { from-one = omega (arith, x .early); to-N = omega (arith, step .to-N) } in
-      let n = best-mem routes early in
-      judged-same (best-main routes early) (n .1) (best-main routes step) (best-mem routes step .1)
-      (best-least routes j (take-more noRoute routes l (n .0)) (n .1)) (best-least routes i m (best-mem routes step .1))
+  pub best-same : {i j : ℕ} → someAt ok routes j ≡ true → i ≤ j → List·Memᴰ (best ok routes j .main) (take i routes) → best ok routes i ≡ best ok routes j
+  best-same {i} {j} some l m =
+      let c = best-in ok routes j some in
+      let early : someAt ok routes i ≡ true = some-with ok routes i m (c .standby-in) (c .passes) in
+      let n = best-in ok routes i early in
+      judged-same routes strict (best-main ok routes i early) (n .standby-in) (best-main ok routes j some) (c .standby-in)
+      (best-least ok routes j (take-more noRoute routes l (n .main-in)) (n .standby-in) (n .passes)) (best-least ok routes i m (c .standby-in) (c .passes))
 
   -- ---- J from a step that is settled, or is not
 
-  pub J-le : {j : ℕ} → Step routes j → settled routes j ≡ true → leastSettled routes ≤ j
+  pub J-le : {j : ℕ} → Step routes j → settled ok routes j ≡ true → leastSettled ok routes ≤ j
   J-le {j} step e =
-      let no : j < leastSettled routes → ⊥ = λ l. true≢false (sym e ∙ least-settled routes (omega (arith, step .from-one, step .to-N)) .none-before j (step .from-one) l) in
+      let no : j < leastSettled ok routes → ⊥ = λ l. true≢false (sym e ∙ least-settled ok routes (omega (arith, step .from-one, step .to-N)) .none-before j (step .from-one) l) in
       omega arith
 
-  pub not-yet : {j : ℕ} → Step routes j → settledByLength routes j ≡ false → j < length routes → j < leastSettled routes
+  pub not-yet : {j : ℕ} → Step routes j → settledByLength ok routes j ≡ false → j < length routes → j < leastSettled ok routes
   unfolding settled
   not-yet {j} step e l =
       let some : 0 < length routes = omega arith in
-      let not-settled : settled routes j ≡ false = ap (λ (b : Bool). b || settledByLength routes j) (ne-eqb j (length routes) (λ q. omega arith)) ∙ e in
-      let no : leastSettled routes ≤ j → ⊥ = λ m. true≢false (sym (settled-mono routes strict (least-settled-step routes some) m (step .to-N) (least-settled routes some .holds)) ∙ not-settled) in
+      let not-settled : settled ok routes j ≡ false = ap (λ (b : Bool). b || settledByLength ok routes j) (ne-eqb j (length routes) (λ q. omega arith)) ∙ e in
+      let no : leastSettled ok routes ≤ j → ⊥ = λ m. true≢false (sym (settled-mono ok routes strict (least-settled-step ok routes some) m (step .to-N) (least-settled ok routes some .holds)) ∙ not-settled) in
       omega arith
 
   -- where the two tests do not hold at N, they hold nowhere
-  pub last-only : 0 < length routes → settledByLength routes (length routes) ≡ false → leastSettled routes ≡ length routes
+  pub last-only : 0 < length routes → settledByLength ok routes (length routes) ≡ false → leastSettled ok routes ≡ length routes
   unfolding settledByLength
-  last-only h e = go (settled-cases routes (leastSettled routes) (least-settled routes h .holds))
+  last-only h e = go (settled-cases ok routes (leastSettled ok routes) (least-settled ok routes h .holds))
     where
       now : Pair
-      now = best routes (leastSettled routes)
+      now = best ok routes (leastSettled ok routes)
 
       last : Pair
-      last = best routes (length routes)
+      last = best ok routes (length routes)
 
-      longer : getD routes (leastSettled routes - 1) noRoute .metres ≤ getD routes (length routes - 1) noRoute .metres
-      longer = metres-mono routes strict (leastSettled routes - 1) (length routes - 1) (omega (arith, least-settled-inside routes h)) (omega arith)
+      longer : getD routes (leastSettled ok routes - 1) noRoute .metres ≤ getD routes (length routes - 1) noRoute .metres
+      longer = metres-mono routes strict (leastSettled ok routes - 1) (length routes - 1) (omega (arith, least-settled-inside ok routes h)) (omega arith)
 
-      both : ByLength routes (leastSettled routes) → NoWorse (sharedCount last) (total last) (sharedCount now) (total now) → settledByLength routes (length routes) ≡ true
+      both : ByLength ok routes (leastSettled ok routes) → NoWorse (sharedCount last) (total last) (sharedCount now) (total now) → settledByLength ok routes (length routes) ≡ true
       both b (NoWorse.fewer l) =
-          let at-end : Step routes (length routes) = record { from-one = h; to-N = omega arith } in
-          absurd (omega (arith, b .meets-floor, floor-le routes (best-main routes at-end) (best-mem routes at-end .1)))
-      both b (NoWorse.as-many f l) = rw (eq-eqb _ _ (f ∙ b .meets-floor), le-leb (total last) (2 * getD routes (length routes - 1) noRoute .metres) (omega (arith, b .long-enough, longer)))
+          let at-end = some-more ok routes (least-settled-inside ok routes h) (b .some) in
+          absurd (omega (arith, b .meets-floor, floor-le routes (best-main ok routes (length routes) at-end) (best-in ok routes (length routes) at-end .standby-in)))
+      both b (NoWorse.as-many f l) = rw (some-more ok routes (least-settled-inside ok routes h) (b .some), eq-eqb _ _ (f ∙ b .meets-floor), le-leb (total last) (2 * getD routes (length routes - 1) noRoute .metres) (omega (arith, b .long-enough, longer)))
 
-      go : (leastSettled routes ≡ length routes) ⊎ ByLength routes (leastSettled routes) → leastSettled routes ≡ length routes
+      go : (leastSettled ok routes ≡ length routes) ⊎ ByLength ok routes (leastSettled ok routes) → leastSettled ok routes ≡ length routes
       go (inl f) = f
-      go (inr b) = absurd (true≢false (sym (both b (best-mono routes (least-settled-step routes h) (least-settled-inside routes h))) ∙ e))
+      go (inr b) = absurd (true≢false (sym (both b (best-mono ok routes (b .some) (least-settled-inside ok routes h))) ∙ e))
 
   -- ---- the counted step: the two tests hold at j
 
-  module _ {j : ℕ} (step : Step routes j) (b : ByLength routes j) where
+  module _ (even : Even ok) {j : ℕ} (step : Step routes j) (b : ByLength ok routes j) where
     abbrev J : ℕ
-    J = leastSettled routes
+    J = leastSettled ok routes
 
     abbrev p : Pair
-    p = best routes j
+    p = best ok routes j
 
     J-step : Step routes J
-    J-step = least-settled-step routes (omega (arith, step .from-one, step .to-N))
+    J-step = least-settled-step ok routes (omega (arith, step .from-one, step .to-N))
 
     J-early : J ≤ j
-    J-early = J-le step (settled-by routes j b)
+    J-early = J-le step (settled-by ok routes j b)
 
     -- J is j, or the two tests hold at J
-    J-cases : (J ≡ j) ⊎ ByLength routes J
-    J-cases = go (settled-cases routes J (least-settled routes (omega (arith, J-step .from-one, J-step .to-N)) .holds))
+    J-cases : (J ≡ j) ⊎ ByLength ok routes J
+    J-cases = go (settled-cases ok routes J (least-settled ok routes (omega (arith, J-step .from-one, J-step .to-N)) .holds))
       where
-        go : (J ≡ length routes) ⊎ ByLength routes J → (J ≡ j) ⊎ ByLength routes J
+        go : (J ≡ length routes) ⊎ ByLength ok routes J → (J ≡ j) ⊎ ByLength ok routes J
         go (inl e) = inl (omega (arith, J-early, step .to-N))
         go (inr c) = inr c
 
     main : Early noRoute (p .main) routes j
-    main = take-place noRoute j routes (best-mem routes step .0)
+    main = take-place noRoute j routes (best-in ok routes j (b .some) .main-in)
 
     main-among : (n : ℕ) → main .at < n → List·Memᴰ (p .main) (take n routes)
     main-among n h = Memᴰ·cast (main .is) (getD-take-mem noRoute n routes (main .at) h (main .inside))
@@ -242,32 +237,32 @@ module _ (routes : List Route) (strict : Strict precedes routes) where
     unfolding total
     main-in-J = let no : J ≤ main .at → ⊥ = λ l. late l J-cases in omega arith
       where
-        late : J ≤ main .at → (J ≡ j) ⊎ ByLength routes J → ⊥
+        late : J ≤ main .at → (J ≡ j) ⊎ ByLength ok routes J → ⊥
         late l (inl e) = omega (arith, main .early)
         late l (inr c) =
-            let n = best-mem routes J-step in
-            let x = take-place noRoute J routes (n .0) in
+            let n = best-in ok routes J (c .some) in
+            let x = take-place noRoute J routes (n .main-in) in
             let short : getD routes (J - 1) noRoute .metres ≤ p .main .metres = rw (main .is) (metres-mono routes strict (J - 1) (main .at) (omega arith) (main .inside)) in
-            let ahead : precedes (best routes J .main) (p .main) ≡ true = rw (x .is, main .is) (pairwise-at noRoute routes strict (x .at) (main .at) (omega (arith, x .early)) (main .inside)) in
+            let ahead : precedes (best ok routes J .main) (p .main) ≡ true = rw (x .is, main .is) (pairwise-at noRoute routes strict (x .at) (main .at) (omega (arith, x .early)) (main .inside)) in
             true≢false
-            (sym (judged-ahead (best routes J) p (c .meets-floor ∙ sym (b .meets-floor)) (omega (arith, c .long-enough, main-metres step)) ahead)
-            ∙ best-least routes j (take-more noRoute routes J-early (n .0)) (n .1))
+            (sym (judged-ahead (best ok routes J) p (c .meets-floor ∙ sym (b .meets-floor)) (omega (arith, c .long-enough, main-metres even j (b .some))) ahead)
+            ∙ best-least ok routes j (take-more noRoute routes J-early (n .main-in)) (n .standby-in) (n .passes))
 
     -- J has the same best pair
-    pub counted-best : best routes (leastSettled routes) ≡ best routes j
-    counted-best = best-same step J-early (main-among J main-in-J)
+    pub counted-best : best ok routes (leastSettled ok routes) ≡ best ok routes j
+    counted-best = best-same (b .some) J-early (main-among J main-in-J)
 
     -- route J is no shorter than half the total
     below-J : count (shorter (half p)) routes < J
-    below-J = omega (arith, J-step .from-one, shorter-place (half p) (J - 1) (omega (arith, J-step .from-one, J-step .to-N)) .1 (omega (arith, go J-cases)))
+    below-J = omega (arith, J-step .from-one, shorter-place routes strict (half p) (J - 1) (omega (arith, J-step .from-one, J-step .to-N)) .1 (omega (arith, go J-cases)))
       where
-        go : (J ≡ j) ⊎ ByLength routes J → total p ≤ 2 * getD routes (J - 1) noRoute .metres
+        go : (J ≡ j) ⊎ ByLength ok routes J → total p ≤ 2 * getD routes (J - 1) noRoute .metres
         go (inl e) = rw e (b .long-enough)
         go (inr c) = omega (arith, c .long-enough, ap total counted-best)
 
     -- at the first step past the main and past all that are shorter, the two tests hold
     counted-at : J ≡ suc (max (main .at) (count (shorter (half p)) routes))
-    counted-at = omega (arith, main-in-J, below-J, J-le (record { from-one = omega arith; to-N = omega (arith, inside, step .to-N) }) (settled-by routes next tests))
+    counted-at = omega (arith, main-in-J, below-J, J-le (record { from-one = omega arith; to-N = omega (arith, inside, step .to-N) }) (settled-by ok routes next tests))
       where
         next : ℕ
         next = suc (max (main .at) (count (shorter (half p)) routes))
@@ -275,54 +270,55 @@ module _ (routes : List Route) (strict : Strict precedes routes) where
         inside : next ≤ j
         inside = omega (arith, main-in-J, below-J, J-early)
 
-        same : best routes next ≡ p
-        same = best-same step inside (main-among next (omega arith))
+        same : best ok routes next ≡ p
+        same = best-same (b .some) inside (main-among next (omega arith))
 
-        tests : ByLength routes next
+        tests : ByLength ok routes next
         tests =
             record {
+              some = some-with ok routes next (main-among next (omega arith)) (best-in ok routes j (b .some) .standby-in) (best-in ok routes j (b .some) .passes);
               meets-floor = ap sharedCount same ∙ b .meets-floor;
-              long-enough = omega (arith, ap total same, shorter-place (half p) (next - 1) (omega (arith, inside, step .to-N)) .0 (omega arith));
+              long-enough = omega (arith, ap total same, shorter-place routes strict (half p) (next - 1) (omega (arith, inside, step .to-N)) .0 (omega arith));
             }
 
     -- J is one more than the main's place, or than the number of routes shorter than half the total, whichever is larger
-    pub counted : (i : ℕ) → i < j → getD routes i noRoute ≡ best routes j .main → leastSettled routes ≡ suc (max i (count (shorter (half (best routes j))) routes))
+    pub counted : (i : ℕ) → i < j → getD routes i noRoute ≡ best ok routes j .main → leastSettled ok routes ≡ suc (max i (count (shorter (half (best ok routes j))) routes))
     counted i l e = rw (place-unique precedes precedes-weak noRoute routes strict i (main .at) (omega (arith, step .to-N)) (main .inside) (e ∙ main .is)) counted-at
 
     -- a main shorter than half the total is one of them
-    pub counted-shorter : best routes j .main .metres < half (best routes j) → leastSettled routes ≡ suc (count (shorter (half (best routes j))) routes)
+    pub counted-shorter : best ok routes j .main .metres < half (best ok routes j) → leastSettled ok routes ≡ suc (count (shorter (half (best ok routes j))) routes)
     counted-shorter l =
-        let no : count (shorter (half p)) routes ≤ main .at → ⊥ = λ m. omega (arith, shorter-place (half p) (main .at) (main .inside) .0 m, ap (λ (r : Route). r .metres) (main .is)) in
+        let no : count (shorter (half p)) routes ≤ main .at → ⊥ = λ m. omega (arith, shorter-place routes strict (half p) (main .at) (main .inside) .0 m, ap (λ (r : Route). r .metres) (main .is)) in
         omega (arith, counted-at)
 
     -- before a main of half the total stand all that are shorter
-    pub counted-half : (i : ℕ) → i < j → getD routes i noRoute ≡ best routes j .main → best routes j .main .metres ≡ half (best routes j) → leastSettled routes ≡ suc i
+    pub counted-half : (i : ℕ) → i < j → getD routes i noRoute ≡ best ok routes j .main → best ok routes j .main .metres ≡ half (best ok routes j) → leastSettled ok routes ≡ suc i
     counted-half i l e f =
-        omega (arith, counted i l e, shorter-place (half p) i (omega (arith, step .to-N)) .1 (omega (arith, ap (λ (r : Route). r .metres) e)))
+        omega (arith, counted i l e, shorter-place routes strict (half p) i (omega (arith, step .to-N)) .1 (omega (arith, ap (λ (r : Route). r .metres) e)))
 
   -- ---- from J on
 
   -- from J on the best pair stays the same
-  pub best-stays : {j : ℕ} → Step routes j → leastSettled routes ≤ j → best routes (leastSettled routes) ≡ best routes j
-  best-stays {j} step l = go (settled-cases routes (leastSettled routes) (least-settled routes some .holds))
+  pub best-stays : Even ok → {j : ℕ} → Step routes j → leastSettled ok routes ≤ j → best ok routes (leastSettled ok routes) ≡ best ok routes j
+  best-stays even {j} step l = go (settled-cases ok routes (leastSettled ok routes) (least-settled ok routes some .holds))
     where
       some : 0 < length routes
       some = omega (arith, step .from-one, step .to-N)
 
-      go : (leastSettled routes ≡ length routes) ⊎ ByLength routes (leastSettled routes) → best routes (leastSettled routes) ≡ best routes j
-      go (inl e) = ap (best routes) (omega (arith, step .to-N))
-      go (inr b) = counted-best step (by-length-mono routes strict (least-settled-step routes some) l (step .to-N) b)
+      go : (leastSettled ok routes ≡ length routes) ⊎ ByLength ok routes (leastSettled ok routes) → best ok routes (leastSettled ok routes) ≡ best ok routes j
+      go (inl e) = ap (best ok routes) (omega (arith, step .to-N))
+      go (inr b) = counted-best even step (by-length-mono ok routes strict (least-settled-step ok routes some) l (step .to-N) b)
 
   -- the pair of the answer is the best of all mains within the allowance, also where fewer were ranked
-  pub best-allowed : (allowance : ℕ) → 0 < length routes → 0 < allowance → best routes (ranked routes allowance) ≡ best routes (min allowance (length routes))
+  pub best-allowed : Even ok → (allowance : ℕ) → 0 < length routes → 0 < allowance → best ok routes (ranked ok routes allowance) ≡ best ok routes (min allowance (length routes))
   unfolding ranked
-  best-allowed allowance some pos = go (leb (leastSettled routes) allowance) refl
+  best-allowed even allowance some pos = go (leb (leastSettled ok routes) allowance) refl
     where
       all : Step routes (min allowance (length routes))
       all = record { from-one = omega arith; to-N = omega arith }
 
-      go : (b : Bool) → leb (leastSettled routes) allowance ≡ b → best routes (min (leastSettled routes) allowance) ≡ best routes (min allowance (length routes))
+      go : (b : Bool) → leb (leastSettled ok routes) allowance ≡ b → best ok routes (min (leastSettled ok routes) allowance) ≡ best ok routes (min allowance (length routes))
       go true e =
-          let h = leb-true (leastSettled routes) allowance e in
-          ap (best routes) (omega arith) ∙ best-stays all (omega (arith, least-settled-inside routes some))
-      go false e = let h = leb-false (leastSettled routes) allowance e in ap (best routes) (omega (arith, least-settled-inside routes some))
+          let h = leb-true (leastSettled ok routes) allowance e in
+          ap (best ok routes) (omega arith) ∙ best-stays even all (omega (arith, least-settled-inside ok routes some))
+      go false e = let h = leb-false (leastSettled ok routes) allowance e in ap (best ok routes) (omega (arith, least-settled-inside ok routes some))

@@ -1,30 +1,30 @@
 -- Calls, as the promises speak of them: the routes and the ways of a call, the test of each number, the pair that a reply says, another allowance, and what a call of the entry does. Assumes nothing.
-use Prim.Native.Nat.{ℕ, _%_, _≤_, _<_}
+use Prim.Native.Nat.{ℕ, _%_, _<_}
 use mathlib.Core.List.{List}
 use mathlib.Core.Path.{_≡_}
 use lib.ListN.{length}
 use Rattle.problem.specs.declared.Arc.{Arc}
+use Rattle.problem.specs.declared.Request.{Request}
 use Rattle.problem.specs.Table.{lastNode, mostReach, mostAllowance, mostTableBytes, replySize, arcsOf, SoundArc}
-use Rattle.problem.specs.Routes.{Route, IsRoute, Way, arcAt, metresOf, routeOf, ranking}
-use Rattle.problem.specs.Pairs.{Pair, pair, best, ranked}
-use Rattle.problem.specs.Reply.{Request, request, answer, after, mainIn, standbyIn}
+use Rattle.problem.specs.Routes.{Route, IsRoute, IsWay, arcAt, routeOf, ranking}
+use Rattle.problem.specs.Pairs.{Pair, pair, every, best, ranked}
+use Rattle.problem.specs.Reply.{request, meshOf, answer, after, mainIn, standbyIn}
 
 -- the routes of a call, in their ranking; N is how many there are
 abbrev pub routesOf : List ℕ → Request → List Route
-routesOf table q = ranking (arcsOf table) (q .source) (q .terminal) (q .reach)
+routesOf table q = ranking (meshOf table q)
 
 -- a list of arc numbers that is a route of the call
 abbrev pub RouteOf : List ℕ → Request → List ℕ → Type 0
-RouteOf table q ks = IsRoute (arcsOf table) (q .source) (q .terminal) (q .reach) ks
+RouteOf table q = IsRoute (meshOf table q)
 
--- a way of the call: from source to terminal within reach; loops, and arcs taken twice, are allowed
-pub record WayOf (table : List ℕ) (q : Request) (ks : List ℕ) : Type 0 where
-  pub way : Way (arcsOf table) (q .source) (q .terminal) ks
-  pub within-reach : metresOf (arcsOf table) ks ≤ q .reach
+-- and one that is a way of the call: loops, and arcs taken twice, are allowed
+abbrev pub WayOf : List ℕ → Request → List ℕ → Type 0
+WayOf table q = IsWay (meshOf table q)
 
 -- the pair of the answer: best(ranked)
 abbrev pub chosen : List ℕ → Request → Pair
-chosen table q = best (routesOf table q) (ranked (routesOf table q) (q .allowance))
+chosen table q = best every (routesOf table q) (ranked every (routesOf table q) (q .allowance))
 
 -- the pair made of two lists of arc numbers, and the one that the bytes of a reply say
 abbrev pub pairMadeOf : List Arc → (main standby : List ℕ) → Pair

@@ -5,11 +5,12 @@ use mathlib.Core.List.{List, [], _∷_, _++_, map}
 use mathlib.Core.Path.{_≡_, refl}
 use native.Mathlib.Omega.{arith}
 use lib.ListN.{length, take, replicate}
+use Rattle.problem.specs.declared.Request.{Request}
 use Rattle.problem.specs.declared.Fault.the-variants.{Sound, Node, EqualEnds, Length, Spare}
 use Rattle.problem.specs.Opened.{opened}
-use Rattle.problem.specs.Table.{Bytes, bytesOf, arcOf, arcsOf, faultOf}
-use Rattle.problem.specs.Routes.{Way, freeLengths, shortest}
-use Rattle.problem.specs.Reply.{Request, request, Answer, answer, refuse, sharedIn, floorIn, rankedIn, totalIn, sharedRisksIn, mainIn, standbyIn}
+use Rattle.problem.specs.Table.{nodes, mostShared, mostInTable, Bytes, bytesOf, arcOf, arcsOf, faultOf}
+use Rattle.problem.specs.Routes.{mesh, Way, paths, FreeWay, freeLengths, shortest}
+use Rattle.problem.specs.Reply.{request, Answer, answer, refuse, sharedIn, floorIn, rankedIn, totalIn, sharedRisksIn, mainIn, standbyIn}
 use Rattle.problem.specs.Calls.{WayOf, allowing}
 use Rattle.problem.specs.Printed.{kilometres, text, digits, output}
 
@@ -161,19 +162,34 @@ pub allowed-more : answer meshA (allowing (request 0 3 10000 1) 1000) 96 ≡ ans
 unfolding opened
 allowed-more = refl
 
--- a way may go round a loop, over the same arcs twice, and be exactly as long as the reach
+-- a way may go round a loop, over the same arcs twice
+pub looped : Way (arcsOf meshLoop) 0 3 (0 ∷ 3 ∷ 4 ∷ 3 ∷ 4 ∷ 5 ∷ [])
+unfolding opened
+looped = Way.over {k = 0} (omega arith) refl (Way.over {k = 3} (omega arith) refl (Way.over {k = 4} (omega arith) refl (Way.over {k = 3} (omega arith) refl (Way.over {k = 4} (omega arith) refl (Way.over {k = 5} (omega arith) refl (Way.there refl))))))
+
+-- such a way may be exactly as long as the reach
 pub round-twice : WayOf meshLoop (request 0 3 4000 1) (0 ∷ 3 ∷ 4 ∷ 3 ∷ 4 ∷ 5 ∷ [])
 unfolding opened
-round-twice =
-    record {
-      way = Way.over {k = 0} (omega arith) refl (Way.over {k = 3} (omega arith) refl (Way.over {k = 4} (omega arith) refl (Way.over {k = 3} (omega arith) refl (Way.over {k = 4} (omega arith) refl (Way.over {k = 5} (omega arith) refl (Way.there refl))))));
-      within-reach = omega arith;
-    }
+round-twice = record { way = looped; within-reach = omega arith }
+
+-- and be free of what is banned
+pub free-round : FreeWay (arcsOf meshLoop) (record { risks = 4 }) 3 0 (0 ∷ 3 ∷ 4 ∷ 3 ∷ 4 ∷ 5 ∷ [])
+unfolding opened
+free-round = record { way = looped; free = refl }
 
 -- no way goes over an arc past the table's end
 pub none-past : Way (arcsOf meshC) 0 1 (2 ∷ 0 ∷ []) → ⊥
 unfolding opened
 none-past (Way.over b t w) = omega arith
+
+-- the paths of mesh A in order of arc numbers; the reach is not asked
+pub paths-A : paths (mesh (arcsOf meshA) 0 3 0) ≡ (0 ∷ 1 ∷ []) ∷ (0 ∷ 4 ∷ 3 ∷ []) ∷ (2 ∷ 3 ∷ []) ∷ []
+unfolding opened
+paths-A = refl
+
+-- nodes 0 to 31, risks 0 to 63, a table of 128 arcs
+pub limits : nodes ∷ mostShared ∷ mostInTable ∷ [] ≡ 32 ∷ 64 ∷ 128 ∷ []
+limits = refl
 
 -- every byte is one
 pub bytes-to-255 : Bytes (0 ∷ 255 ∷ [])
@@ -278,10 +294,10 @@ unfolding opened
 printed-12 = refl
 
 -- the side table of mesh A: free of risk 0 the terminal is 5,000 m from the source; free of 1 and 3 it cannot be reached, and the length is then 0
-pub shortest-A : map (λ risks. freeLengths (arcsOf meshA) risks 3 0) (1 ∷ 10 ∷ []) ≡ (5000 ∷ []) ∷ [] ∷ []
+pub shortest-A : map (λ risks. freeLengths (arcsOf meshA) (record { risks = risks }) 3 0) (1 ∷ 10 ∷ []) ≡ (5000 ∷ []) ∷ [] ∷ []
 unfolding opened
 shortest-A = refl
 
-pub shortest-lengths : map (λ risks. shortest (arcsOf meshA) risks 3 0) (0 ∷ 1 ∷ 10 ∷ []) ≡ 3000 ∷ 5000 ∷ 0 ∷ []
+pub shortest-lengths : map (λ risks. shortest (arcsOf meshA) (record { risks = risks }) 3 0) (0 ∷ 1 ∷ 10 ∷ []) ≡ 3000 ∷ 5000 ∷ 0 ∷ []
 unfolding opened
 shortest-lengths = refl

@@ -1,14 +1,14 @@
--- 01, Routes and their ranking, When a reply is settled: pairs and their judgement, best(j), the floor, settled, J. Ranks are counted from 1. Assumes nothing.
-use Prim.Native.Nat.{ℕ, _+_, _*_, _-_, _^_, _≤_, _<_, min}
-use mathlib.Core.Bool.{Bool, _&&_, _||_}
+-- 01, Routes and their ranking, When a reply is settled: pairs and their judgement, best(j), the floor, settled, J. Ranks are counted from 1.
+-- All of it speaks of the pairs that pass a test `ok`; 01 has every pair (`every`). Assumes nothing.
+use Prim.Native.Nat.{ℕ, _+_, _*_, _-_, _≤_, _<_, min}
+use mathlib.Core.Bool.{Bool, true, _&&_, _||_, not}
 use mathlib.Core.List.{List, [], _∷_, _++_, map}
 use mathlib.Core.Path.{_≡_}
-use lib.Bits.{bitAnd}
-use lib.Count.{onesIn}
 use lib.Dec.{eqb, leb, ltb}
 use lib.ListN.{length, getD, take}
-use Rattle.laws.specs.Choosing.{if_then_else_, leastFrom, lexBy, firstBy}
-use Rattle.problem.specs.Table.{riskWidth}
+use Rattle.laws.specs.Choosing.{if_then_else_, keep, leastFrom, lexBy, firstBy}
+use Rattle.problem.specs.declared.Exposure.{Exposure}
+use Rattle.problem.specs.Exposures.{toNothing, toAll, common, size, sharing}
 use Rattle.problem.specs.Routes.{Route, rankKey}
 
 -- main and standby may be the same route
@@ -19,13 +19,13 @@ pub record Pair : Type 0 where
 abbrev pub pair : Route → Route → Pair
 pair m s = record { main = m; standby = s }
 
--- the risks in both sets
-unfoldable pub sharedRisks : Pair → ℕ
-sharedRisks p = bitAnd (p .main .risks) (p .standby .risks)
-
--- the number of ones in the common risk field
+-- how many risks are on both routes
 unfoldable pub sharedCount : Pair → ℕ
-sharedCount p = onesIn riskWidth (sharedRisks p)
+sharedCount p = sharing (p .main .exposure) (p .standby .exposure)
+
+-- the field of those risks: bit r for risk r
+unfoldable pub sharedRisks : Pair → ℕ
+sharedRisks p = common (p .main .exposure) (p .standby .exposure) .risks
 
 unfoldable pub total : Pair → ℕ
 total p = p .main .metres + p .standby .metres
@@ -49,7 +49,7 @@ pairsOf (m ∷ mains) standbys = map (λ s. pair m s) standbys ++ pairsOf mains 
 
 -- what stands for a route where there is none
 abbrev pub noRoute : Route
-noRoute = record { arcs = []; metres = 0; risks = 0 }
+noRoute = record { arcs = []; metres = 0; exposure = toNothing }
 
 -- a rank, and a step of the ranking: 1 to N
 pub record Step (routes : List Route) (j : ℕ) : Type 0 where
@@ -64,34 +64,46 @@ ofRank routes j = getD routes (j - 1) noRoute
 abbrev pub rankedKey : List Route → ℕ → ℕ → List ℕ
 rankedKey routes m s = let p : Pair = pair (ofRank routes m) (ofRank routes s) in sharedCount p ∷ total p ∷ m ∷ s ∷ []
 
--- best(j): the first pair whose main has rank at most j and whose standby is any route
-unfoldable pub best : List Route → ℕ → Pair
-best routes j = firstBy judged (pair noRoute noRoute) (pairsOf (take j routes) routes)
-
--- the risks that lie on every route
-unfoldable pub commonRisks : List Route → ℕ
-commonRisks [] = 2 ^ riskWidth - 1
-commonRisks (r ∷ routes) = bitAnd (r .risks) (commonRisks routes)
+-- what lies on every route, and how many that is
+unfoldable pub onEvery : List Route → Exposure
+onEvery [] = toAll
+onEvery (r ∷ routes) = common (r .exposure) (onEvery routes)
 
 unfoldable pub floor : List Route → ℕ
-floor routes = onesIn riskWidth (commonRisks routes)
+floor routes = size (onEvery routes)
 
--- best(j) shares exactly the floor, and twice the length of route j is at least its total
-unfoldable pub settledByLength : List Route → ℕ → Bool
-settledByLength routes j =
-    eqb (sharedCount (best routes j)) (floor routes) && leb (total (best routes j)) (2 * ofRank routes j .metres)
+-- 01's candidates: every pair
+abbrev pub every : Pair → Bool
+every p = true
 
--- step j is settled
-unfoldable pub settled : List Route → ℕ → Bool
-settled routes j = eqb j (length routes) || settledByLength routes j
+module _ (ok : Pair → Bool) (routes : List Route) where
+  -- the candidates at step j: main of rank at most j, any route as standby
+  unfoldable pub candidates : ℕ → List Pair
+  candidates j = keep ok (pairsOf (take j routes) routes)
 
--- J: the least settled step
-unfoldable pub leastSettled : List Route → ℕ
-leastSettled routes = leastFrom (settled routes) (length routes) 1
+  -- whether there is one; with every pair there always is
+  unfoldable pub someAt : ℕ → Bool
+  someAt j = not (eqb (length (candidates j)) 0)
 
-unfoldable pub ranked : List Route → ℕ → ℕ
-ranked routes allowance = min (leastSettled routes) allowance
+  -- best(j): the first of them
+  unfoldable pub best : ℕ → Pair
+  best j = firstBy judged (pair noRoute noRoute) (candidates j)
 
--- 0 settled, 1 stopped
-unfoldable pub verdict : List Route → ℕ → ℕ
-verdict routes allowance = if leb (leastSettled routes) allowance then 0 else 1
+  -- there is one, best(j) shares exactly the floor, and twice the length of route j is at least its total
+  unfoldable pub settledByLength : ℕ → Bool
+  settledByLength j = someAt j && (eqb (sharedCount (best j)) (floor routes) && leb (total (best j)) (2 * ofRank routes j .metres))
+
+  -- step j is settled
+  unfoldable pub settled : ℕ → Bool
+  settled j = eqb j (length routes) || settledByLength j
+
+  -- J: the least settled step
+  unfoldable pub leastSettled : ℕ
+  leastSettled = leastFrom settled (length routes) 1
+
+  unfoldable pub ranked : ℕ → ℕ
+  ranked allowance = min leastSettled allowance
+
+  -- 0 settled, 1 stopped
+  unfoldable pub verdict : ℕ → ℕ
+  verdict allowance = if leb leastSettled allowance then 0 else 1

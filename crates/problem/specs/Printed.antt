@@ -9,7 +9,8 @@ use lib.Dec.{eqb, ltb}
 use lib.ListN.{length, getD, drop}
 use Rattle.laws.specs.Choosing.{if_then_else_}
 use Rattle.problem.specs.Table.{replySize, numberAt}
-use Rattle.problem.specs.Reply.{Request, request, Answer, answer, refuse, verdictIn, sharedIn, floorIn, rankedIn, mainMetresIn, standbyMetresIn, mainIn, standbyIn}
+use Rattle.problem.specs.declared.Request.{Request}
+use Rattle.problem.specs.Reply.{request, Answer, answer, refuse, verdictIn, sharedIn, floorIn, rankedIn, mainMetresIn, standbyMetresIn, mainIn, standbyIn}
 
 -- metres plus 999, divided by 1,000, whole part: once per route
 unfoldable pub kilometres : ℕ → ℕ

@@ -1,22 +1,22 @@
 -- 01, The reply record; Numbers returned, and the order of checks. Assumes nothing.
-use Prim.Native.Nat.{ℕ, zero, suc, _+_, _-_, _%_}
-use mathlib.Core.Bool.{_||_, not}
+use Prim.Native.Nat.{ℕ, zero, suc, _+_, _-_, _%_, _≤_, _<_}
+use mathlib.Core.Bool.{Bool, true, _||_, not}
 use mathlib.Core.List.{List, [], _∷_, _++_}
+use mathlib.Core.Path.{_≡_}
 use lib.Dec.{eqb, ltb}
 use lib.ListN.{length, getD, take, drop, replicate}
 use Rattle.laws.specs.Choosing.{if_then_else_}
-use Rattle.problem.specs.Table.{lastNode, mostReach, mostAllowance, mostTableBytes, replySize, numberAt, bytesOf, arcsOf, arcsNumber}
-use Rattle.problem.specs.Routes.{Route, ranking}
-use Rattle.problem.specs.Pairs.{Pair, sharedRisks, sharedCount, best, floor, ranked, verdict}
-
-pub record Request : Type 0 where
-  pub source : ℕ
-  pub terminal : ℕ
-  pub reach : ℕ
-  pub allowance : ℕ
+use Rattle.problem.specs.declared.Request.{Request}
+use Rattle.problem.specs.Table.{lastNode, mostReach, mostAllowance, mostTableBytes, replySize, numberAt, bytesOf, arcsOf, arcsNumber, allSound}
+use Rattle.problem.specs.Routes.{Mesh, mesh, Route, ranking}
+use Rattle.problem.specs.Pairs.{Pair, sharedRisks, sharedCount, floor, every, best, ranked, verdict}
 
 abbrev pub request : (source terminal reach allowance : ℕ) → Request
 request source terminal reach allowance = record { source = source; terminal = terminal; reach = reach; allowance = allowance }
+
+-- the mesh that a call is planned over
+abbrev pub meshOf : List ℕ → Request → Mesh
+meshOf table q = mesh (arcsOf table) (q .source) (q .terminal) (q .reach)
 
 -- what a call gives: the number returned, and the bytes written, none with a refusal
 pub record Answer : Type 0 where
@@ -78,29 +78,70 @@ mainIn reply = take (getD reply 3 0) (drop 32 reply)
 abbrev pub standbyIn : List ℕ → List ℕ
 standbyIn reply = take (getD reply 4 0) (drop 64 reply)
 
--- the first of the checks 2 to 9 that applies, or 0; `size` is the reply buffer's
+-- a check: its test, and the number that is returned where the test holds
+pub record Check : Type 0 where
+  pub test : Bool
+  pub number : ℕ
+
+abbrev pub check : Bool → ℕ → Check
+check test number = record { test = test; number = number }
+
+-- the number of the first whose test holds, or 0
+unfoldable pub firstNumber : List Check → ℕ
+firstNumber [] = 0
+firstNumber (c ∷ cs) = if c .test then c .number else firstNumber cs
+
+-- the checks before 10, in their order: of the sizes (`size` is the reply buffer's), of the request, of the arcs
+unfoldable pub sizeChecks : List ℕ → ℕ → List Check
+sizeChecks table size =
+    check (ltb mostTableBytes (length table)) 2
+    ∷ check (not (eqb (length table % 16) 0)) 3
+    ∷ check (ltb size replySize) 4
+    ∷ []
+
+unfoldable pub requestChecks : Request → List Check
+requestChecks q =
+    check (ltb lastNode (q .source) || ltb lastNode (q .terminal)) 5
+    ∷ check (eqb (q .source) (q .terminal)) 6
+    ∷ check (ltb mostReach (q .reach)) 7
+    ∷ check (eqb (q .allowance) 0 || ltb mostAllowance (q .allowance)) 8
+    ∷ []
+
+unfoldable pub arcChecks : List ℕ → List Check
+arcChecks table = check (not (allSound (arcsOf table))) (arcsNumber (arcsOf table)) ∷ []
+
+-- the first of them that applies, or 0
 unfoldable pub refusal : List ℕ → Request → ℕ → ℕ
-refusal table q size =
-    if ltb mostTableBytes (length table) then 2
-    else (if not (eqb (length table % 16) 0) then 3
-    else (if ltb size replySize then 4
-    else (if ltb lastNode (q .source) || ltb lastNode (q .terminal) then 5
-    else (if eqb (q .source) (q .terminal) then 6
-    else (if ltb mostReach (q .reach) then 7
-    else (if eqb (q .allowance) 0 || ltb mostAllowance (q .allowance) then 8
-    else arcsNumber (arcsOf table)))))))
+refusal table q size = firstNumber (sizeChecks table size ++ requestChecks q ++ arcChecks table)
+
+-- every check before 10 has passed: of table and request, which is what planning may rely on
+pub record Checked (table : List ℕ) (q : Request) : Type 0 where
+  pub few-bytes : length table ≤ mostTableBytes
+  pub whole-arcs : length table % 16 ≡ 0
+  pub source-node : q .source ≤ lastNode
+  pub terminal-node : q .terminal ≤ lastNode
+  pub ends-differ : q .source ≡ q .terminal → ⊥
+  pub reach-range : q .reach ≤ mostReach
+  pub some-allowance : 0 < q .allowance
+  pub allowance-range : q .allowance ≤ mostAllowance
+  pub sound : allSound (arcsOf table) ≡ true
+
+-- and of the reply buffer
+pub record Passed (table : List ℕ) (q : Request) (size : ℕ) : Type 0 where
+  pub checked : Checked table q
+  pub room : replySize ≤ size
 
 -- the answer from the ranking, once those checks have passed
 unfoldable pub planned : List Route → ℕ → Answer
 planned [] allowance = refuse 10
 planned (r ∷ more) allowance =
     let routes : List Route = r ∷ more in
-    let p : Pair = best routes (ranked routes allowance) in
+    let p : Pair = best every routes (ranked every routes allowance) in
     if ltb mostReach (p .main .metres) || ltb mostReach (p .standby .metres) then refuse 11
-    else record { number = verdict routes allowance; reply = replyOf (verdict routes allowance) (floor routes) (ranked routes allowance) p }
+    else record { number = verdict every routes allowance; reply = replyOf (verdict every routes allowance) (floor routes) (ranked every routes allowance) p }
 
 unfoldable pub answerUnless : ℕ → List ℕ → Request → Answer
-answerUnless zero table q = planned (ranking (arcsOf table) (q .source) (q .terminal) (q .reach)) (q .allowance)
+answerUnless zero table q = planned (ranking (meshOf table q)) (q .allowance)
 answerUnless (suc n) table q = refuse (suc n)
 
 -- the answer of the planning entry, for every table, request and size of buffer

@@ -1,15 +1,26 @@
--- 01, Routes and their ranking: ways, routes, all routes, the ranking; the shortest length free of some risks. Assumes nothing.
+-- 01, Routes and their ranking: the mesh, ways, routes, all routes, the ranking; the shortest length free of some risks. Assumes nothing.
 use Prim.Native.Nat.{ℕ, zero, suc, _+_, _≤_, _<_}
 use mathlib.Core.Bool.{Bool, true, false, _&&_}
 use mathlib.Core.List.{List, [], _∷_, _++_, map}
 use mathlib.Core.Path.{_≡_}
-use lib.Bits.{bitAnd, bitOr}
 use lib.Dec.{eqb, leb, ltb}
 use lib.ListN.{length, getD}
 use Rattle.laws.specs.Choosing.{Distinct, keep, lexBy, sortBy, firstBy}
 use Rattle.laws.specs.Sets.{bit, with}
 use Rattle.problem.specs.declared.Arc.{Arc}
+use Rattle.problem.specs.declared.Exposure.{Exposure}
 use Rattle.problem.specs.Table.{mostArcs}
+use Rattle.problem.specs.Exposures.{toNothing, ofArc, joined, disjoint}
+
+-- what is planned over: the arcs, the two nodes, and the longest that a route may be
+pub record Mesh : Type 0 where
+  pub arcs : List Arc
+  pub source : ℕ
+  pub terminal : ℕ
+  pub reach : ℕ
+
+abbrev pub mesh : List Arc → (source terminal reach : ℕ) → Mesh
+mesh arcs source terminal reach = record { arcs = arcs; source = source; terminal = terminal; reach = reach }
 
 module _ (arcs : List Arc) where
   -- arc number k; past the table's end, an arc of no length
@@ -21,10 +32,10 @@ module _ (arcs : List Arc) where
   metresOf [] = 0
   metresOf (k ∷ ks) = arcAt k .metres + metresOf ks
 
-  -- its risks: the union of its arcs' risks
-  unfoldable pub risksOf : List ℕ → ℕ
-  risksOf [] = 0
-  risksOf (k ∷ ks) = bitOr (arcAt k .risks) (risksOf ks)
+  -- what it is exposed to: all that its arcs are
+  unfoldable pub exposureOf : List ℕ → Exposure
+  exposureOf [] = toNothing
+  exposureOf (k ∷ ks) = joined (ofArc (arcAt k)) (exposureOf ks)
 
   -- the nodes that it meets from v on, v first
   unfoldable pub nodesFrom : ℕ → List ℕ → List ℕ
@@ -36,11 +47,16 @@ module _ (arcs : List Arc) where
     there : {v to : ℕ} → v ≡ to → Way v to []
     over : {v to k : ℕ} {ks : List ℕ} → k < length arcs → arcAt k .tail ≡ v → Way (arcAt k .head) to ks → Way v to (k ∷ ks)
 
-  -- a route: a way from source to terminal that meets no node twice and is no longer than the reach
-  pub record IsRoute (source terminal reach : ℕ) (ks : List ℕ) : Type 0 where
-    pub way : Way source terminal ks
-    pub no-node-twice : Distinct (nodesFrom source ks)
-    pub within-reach : metresOf ks ≤ reach
+-- a way of a mesh: from source to terminal, no longer than the reach
+pub record IsWay (m : Mesh) (ks : List ℕ) : Type 0 where
+  pub way : Way (m .arcs) (m .source) (m .terminal) ks
+  pub within-reach : metresOf (m .arcs) ks ≤ m .reach
+
+-- a route: such a way that meets no node twice
+pub record IsRoute (m : Mesh) (ks : List ℕ) : Type 0 where
+  pub way : Way (m .arcs) (m .source) (m .terminal) ks
+  pub no-node-twice : Distinct (nodesFrom (m .arcs) (m .source) ks)
+  pub within-reach : metresOf (m .arcs) ks ≤ m .reach
 
 -- the arc leaves `at` for a node that is not met yet
 unfoldable pub opens : ℕ → ℕ → Arc → Bool
@@ -60,18 +76,26 @@ unfoldable pub grow : List Arc → ℕ → ℕ → ℕ → ℕ → List (List �
 grow arcs terminal zero met at = elim (eqb at terminal) [ true ↦ [] ∷ [] | false ↦ [] ]
 grow arcs terminal (suc n) met at = elim (eqb at terminal) [ true ↦ [] ∷ [] | false ↦ sprout (grow arcs terminal n) met at 0 arcs ]
 
--- a route with its length and its risks
+-- a path: a list of arcs from v to the terminal that meets no node twice, of whatever length; all of them, in order of arc numbers
+abbrev pub pathsFrom : List Arc → ℕ → ℕ → List (List ℕ)
+pathsFrom arcs terminal v = grow arcs terminal mostArcs (with 0 v) v
+
+-- the paths of a mesh
+abbrev pub paths : Mesh → List (List ℕ)
+paths m = pathsFrom (m .arcs) (m .terminal) (m .source)
+
+-- a route with its length and what it is exposed to
 pub record Route : Type 0 where
   pub arcs : List ℕ
   pub metres : ℕ
-  pub risks : ℕ
+  pub exposure : Exposure
 
 unfoldable pub routeOf : List Arc → List ℕ → Route
-routeOf arcs ks = record { arcs = ks; metres = metresOf arcs ks; risks = risksOf arcs ks }
+routeOf arcs ks = record { arcs = ks; metres = metresOf arcs ks; exposure = exposureOf arcs ks }
 
 -- every route from v to the terminal, of whatever length
 unfoldable pub routesFrom : List Arc → ℕ → ℕ → List Route
-routesFrom arcs terminal v = map (routeOf arcs) (grow arcs terminal mostArcs (with 0 v) v)
+routesFrom arcs terminal v = map (routeOf arcs) (pathsFrom arcs terminal v)
 
 -- routes are ranked by length; equal lengths by the arc number at the first place where the lists differ
 unfoldable pub rankKey : Route → List ℕ
@@ -84,13 +108,25 @@ unfoldable pub within : ℕ → Route → Bool
 within reach r = leb (r .metres) reach
 
 -- all routes in their ranking; N is how many there are
-unfoldable pub ranking : List Arc → ℕ → ℕ → ℕ → List Route
-ranking arcs source terminal reach = sortBy precedes (keep (within reach) (routesFrom arcs terminal source))
+unfoldable pub ranking : Mesh → List Route
+ranking m = sortBy precedes (keep (within (m .reach)) (routesFrom (m .arcs) (m .terminal) (m .source)))
 
--- the lengths of the routes from v to the terminal over arcs free of the given risks; none where the terminal cannot be reached
-unfoldable pub freeLengths : List Arc → ℕ → ℕ → ℕ → List ℕ
-freeLengths arcs risks terminal v = map (λ r. r .metres) (keep (λ r. eqb (bitAnd (r .risks) risks) 0) (routesFrom arcs terminal v))
+-- how many routes pass a test, and the test "shorter than x metres"
+abbrev pub count : (Route → Bool) → List Route → ℕ
+count test routes = length (keep test routes)
+
+abbrev pub shorter : ℕ → Route → Bool
+shorter x r = ltb (r .metres) x
+
+-- a way from v to the terminal over arcs exposed to nothing that is banned
+pub record FreeWay (arcs : List Arc) (banned : Exposure) (terminal v : ℕ) (ks : List ℕ) : Type 0 where
+  pub way : Way arcs v terminal ks
+  pub free : disjoint (exposureOf arcs ks) banned ≡ true
+
+-- the lengths of the routes from v to the terminal over such arcs; none where the terminal cannot be reached
+unfoldable pub freeLengths : List Arc → Exposure → ℕ → ℕ → List ℕ
+freeLengths arcs banned terminal v = map (λ r. r .metres) (keep (λ r. disjoint (r .exposure) banned) (routesFrom arcs terminal v))
 
 -- the shortest of them, or 0: a way with loops is never shorter (`shortest-least` of proofs/WayLaws.antt)
-unfoldable pub shortest : List Arc → ℕ → ℕ → ℕ → ℕ
-shortest arcs risks terminal v = firstBy ltb 0 (freeLengths arcs risks terminal v)
+unfoldable pub shortest : List Arc → Exposure → ℕ → ℕ → ℕ
+shortest arcs banned terminal v = firstBy ltb 0 (freeLengths arcs banned terminal v)

@@ -14,6 +14,9 @@ use Rattle.problem.specs.declared.Fault.the-variants.{Sound, Node, Equal
 abbrev pub lastNode : ℕ
 lastNode = 31
 
+abbrev pub nodes : ℕ
+nodes = suc lastNode
+
 -- a route of more arcs would meet a node twice
 abbrev pub mostArcs : ℕ
 mostArcs = 31
@@ -21,6 +24,10 @@ mostArcs = 31
 -- risks are numbered from 0 to one below this
 abbrev pub riskWidth : ℕ
 riskWidth = 64
+
+-- what two routes can share at most
+abbrev pub mostShared : ℕ
+mostShared = riskWidth
 
 abbrev pub mostArcMetres : ℕ
 mostArcMetres = 2000000
@@ -34,6 +41,10 @@ mostAllowance = 1000000
 
 abbrev pub mostTableBytes : ℕ
 mostTableBytes = 2048
+
+-- how many arcs the largest table has
+abbrev pub mostInTable : ℕ
+mostInTable = mostTableBytes / 16
 
 abbrev pub replySize : ℕ
 replySize = 96

@@ -1,5 +1,33 @@
-// The two kinds of data that the definitions and the code have in common. Everything else of this crate is
-// definitions (specs/) and what is true of them (proofs/).
+// The kinds of data that the definitions and the code have in common, and the definitions' limits as the code has them (specs/Table.antt).
+// Everything else of this crate is definitions (specs/) and what is true of them (proofs/).
+
+// Nodes are numbered from 0 to LAST_NODE.
+pub const LAST_NODE: u8 = 31;
+
+pub const NODES: usize = LAST_NODE as usize + 1;
+
+// Risks are numbered from 0 to one below RISK_WIDTH; two routes share at most MOST_SHARED.
+pub const RISK_WIDTH: u8 = 64;
+
+pub const MOST_SHARED: u64 = RISK_WIDTH as u64;
+
+pub const MOST_ARC_METRES: u32 = 2000000;
+
+pub const MOST_REACH: u32 = 62000000;
+
+pub const MOST_ALLOWANCE: u32 = 1000000;
+
+// A record of the table, the largest table, and how many arcs it has.
+pub const ARC_BYTES: usize = 16;
+
+pub const MOST_TABLE_BYTES: usize = 2048;
+
+pub const MOST_IN_TABLE: usize = MOST_TABLE_BYTES / ARC_BYTES;
+
+pub const REPLY_SIZE: usize = 96;
+
+// A route's places in the reply.
+pub const PLACES: usize = 32;
 
 // One direction of one span: the fields of a table's record of 16 bytes (01, The span table).
 pub struct Arc {
@@ -17,4 +45,18 @@ pub enum Fault {
     EqualEnds,
     Length,
     Spare,
+}
+
+// What an arc or a route is exposed to, and may have in common with another: its risks, bit r for risk r.
+// Only crate exposure and specs/Exposures.antt look inside.
+pub struct Exposure {
+    pub risks: u64,
+}
+
+// What a call asks for: two nodes, the longest that a route may be, and how many routes may be tried as main.
+pub struct Request {
+    pub source: u32,
+    pub terminal: u32,
+    pub reach: u32,
+    pub allowance: u32,
 }

@@ -1,2 +1,1 @@
-pub mod ByteLaws
 pub mod RecordLaws

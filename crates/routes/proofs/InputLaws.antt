@@ -2,15 +2,16 @@
 use mathlib.Core.Path.{_≡_, refl, sym, ap, ap₂, _∙_, subst}
 use mathlib.Core.Bool.{Bool, true, false, not, true≢false}
 use mathlib.Core.List.{List, [], _∷_, _++_, append-nil}
-use Prim.Native.Nat.{ℕ, _+_, _*_, _≤_, _<_}
+use Prim.Native.Nat.{ℕ, _≤_, _<_}
 use native.Mathlib.Omega.{arith}
 use lib.Dec.{eqb, ltb}
 use lib.ListN.{length, getD, drop, length-append, drop-of-length-le}
 use borrow.Author.Tests.{ltb-true, ltb-false, lt-ltb, le-ltb, eq-eqb, ne-eqb}
 use Rattle.laws.specs.Choosing.{if_then_else_}
-use Rattle.buffer.specs.Puts.{Puts}
+use Rattle.octets.specs.Puts.{Puts}
 use Rattle.problem.specs.Table.{replySize, numberAt}
-use Rattle.problem.specs.Reply.{Request, request, Answer, after, answer}
+use Rattle.problem.specs.declared.Request.{Request}
+use Rattle.problem.specs.Reply.{request, Answer, after, answer}
 use Rattle.problem.specs.Calls.{Called}
 use Rattle.problem.specs.Printed.{text, fields, lines, printed, requestOf, faulty, output}
 use Rattle.problem.proofs.CallLaws.{low-number}
@@ -20,13 +21,13 @@ pub faulty-short : (input : List ℕ) → length input < 16 → faulty input ≡
 unfolding faulty
 faulty-short input h = rw (lt-ltb (length input) 16 h)
 
-pub faulty-low : (input : List ℕ) → 16 ≤ length input → (getD input 2 0 + 256 * getD input 3 0 ≡ 0 → ⊥) → faulty input ≡ true
-unfolding faulty numberAt
-faulty-low input h e = rw (le-ltb (length input) 16 h, ne-eqb (numberAt input 2 2) 0 (λ f. e (omega arith)))
+pub faulty-low : (input : List ℕ) → 16 ≤ length input → (numberAt input 2 2 ≡ 0 → ⊥) → faulty input ≡ true
+unfolding faulty
+faulty-low input h e = rw (le-ltb (length input) 16 h, ne-eqb (numberAt input 2 2) 0 e)
 
-pub faulty-high : (input : List ℕ) → 16 ≤ length input → getD input 2 0 + 256 * getD input 3 0 ≡ 0 → faulty input ≡ not (eqb (numberAt input 12 4) 0)
-unfolding faulty numberAt
-faulty-high input h e = rw (le-ltb (length input) 16 h, eq-eqb (numberAt input 2 2) 0 (omega arith))
+pub faulty-high : (input : List ℕ) → 16 ≤ length input → numberAt input 2 2 ≡ 0 → faulty input ≡ not (eqb (numberAt input 12 4) 0)
+unfolding faulty
+faulty-high input h e = rw (le-ltb (length input) 16 h, eq-eqb (numberAt input 2 2) 0 e)
 
 pub output-fault : (input reply : List ℕ) → faulty input ≡ true → printed (record { number = 12; reply = reply }) ≡ output input
 unfolding output printed

@@ -1,8 +1,6 @@
-// Sets of nodes or of risks as the bits of a u64: r is in the set where bit r is 1.
+// Sets of nodes as the bits of a u64: r is in the set where bit r is 1.
 ghost use mathlib.Core.Path.{_≡_};
-ghost use Prim.Native.Nat.{_≤_, _<_};
-ghost use lib.Bits.{bitAnd};
-ghost use lib.Count.{onesIn};
+ghost use Prim.Native.Nat.{_<_};
 ghost use lib.Dec.{eqb};
 ghost use Rattle.laws.specs.Sets.{bit, with};
 
@@ -20,11 +18,4 @@ pub fn with(set: u64, r: u8) -> u64
     ensures { λ o. ⌜ o ≡ with set r ⌝ }
 {
     set | (1 << r)
-}
-
-// How many are in both sets: the ones in the common field.
-pub fn shared_count(a: u64, b: u64) -> u32
-    ensures { λ o. ⌜ (o ≡ onesIn 64 (bitAnd a b)) × (o ≤ 64) ⌝ }
-{
-    u64::count_ones(a & b)
 }

@@ -1,33 +1,25 @@
 -- Free ways, arc by arc: one arc more is free where the arc and the rest are, and only there. Assumes nothing.
-use mathlib.Core.Path.{_≡_, refl, ap}
+use mathlib.Core.Path.{_≡_, refl}
+use mathlib.Core.Bool.{true}
 use mathlib.Core.List.{List, _∷_}
 use Prim.Native.Nat.{ℕ, _<_}
-use native.Mathlib.Omega.{arith}
-use lib.Bits.{bitAnd, bitOr}
 use lib.ListN.{length}
-use Rattle.laws.specs.Sets.{bit}
-use Rattle.laws.proofs.SetLaws.{bit-or, bit-and, bit-empty, bits-ext, and-within}
 use Rattle.problem.specs.declared.Arc.{Arc}
-use Rattle.problem.specs.Routes.{arcAt, risksOf, Way}
-use Rattle.problem.proofs.WayLaws.{FreeWay}
+use Rattle.problem.specs.declared.Exposure.{Exposure}
+use Rattle.problem.specs.Exposures.{ofArc, disjoint}
+use Rattle.problem.specs.Routes.{arcAt, exposureOf, Way, FreeWay}
+use Rattle.problem.proofs.ExposureLaws.{inside-joined, joined-inside, disjoint-inside, disjoint-joined}
 
--- ---- sets with nothing in common
+module _ (arcs : List Arc) (banned : Exposure) (k : ℕ) (ks : List ℕ) where
+  pub free-first : disjoint (exposureOf arcs (k ∷ ks)) banned ≡ true → disjoint (ofArc (arcAt arcs k)) banned ≡ true
+  unfolding exposureOf
+  free-first e = disjoint-inside _ _ banned (inside-joined (ofArc (arcAt arcs k)) (exposureOf arcs ks)) e
 
-pub free-union : (a b c : ℕ) → bitAnd a c ≡ 0 → bitAnd b c ≡ 0 → bitAnd (bitOr a b) c ≡ 0
-free-union a b c e f =
-    bits-ext (bitAnd (bitOr a b) c) 0
-    (λ r. rw (bit-and, bit-or) (omega (arith, rw bit-and at (ap (λ (s : ℕ). bit s r) e), rw bit-and at (ap (λ (s : ℕ). bit s r) f), bit-empty r)))
+  pub free-rest : disjoint (exposureOf arcs (k ∷ ks)) banned ≡ true → disjoint (exposureOf arcs ks) banned ≡ true
+  unfolding exposureOf
+  free-rest e = disjoint-inside _ _ banned (joined-inside (ofArc (arcAt arcs k)) (exposureOf arcs ks)) e
 
-pub free-first : (a b c : ℕ) → bitAnd (bitOr a b) c ≡ 0 → bitAnd a c ≡ 0
-free-first a b c e = and-within a (bitOr a b) c (λ r. rw bit-or (omega arith)) e
-
-pub free-rest : (a b c : ℕ) → bitAnd (bitOr a b) c ≡ 0 → bitAnd b c ≡ 0
-free-rest a b c e = and-within b (bitOr a b) c (λ r. rw bit-or (omega arith)) e
-
--- ---- ways
-
-pub free-over : (arcs : List Arc) (banned terminal k : ℕ) {ks : List ℕ} → k < length arcs → bitAnd (arcAt arcs k .risks) banned ≡ 0
-    → FreeWay arcs banned terminal (arcAt arcs k .head) ks → FreeWay arcs banned terminal (arcAt arcs k .tail) (k ∷ ks)
-unfolding risksOf
-free-over arcs banned terminal k {ks} h f w =
-    record { way = Way.over h refl (w .way); free = free-union (arcAt arcs k .risks) (risksOf arcs ks) banned f (w .free) }
+  pub free-over : (terminal : ℕ) → k < length arcs → disjoint (ofArc (arcAt arcs k)) banned ≡ true
+      → FreeWay arcs banned terminal (arcAt arcs k .head) ks → FreeWay arcs banned terminal (arcAt arcs k .tail) (k ∷ ks)
+  unfolding exposureOf
+  free-over terminal h f w = record { way = Way.over h refl (w .way); free = disjoint-joined (ofArc (arcAt arcs k)) (exposureOf arcs ks) banned f (w .free) }

@@ -6,24 +6,25 @@ use mathlib.Core.List.{List, _∷_}
 use Prim.Native.Nat.{ℕ, suc, _+_, _*_, _-_, _≤_, _<_}
 use native.Mathlib.Decide.{ℕ-discrete}
 use native.Mathlib.Omega.{arith}
-use lib.Bits.{bitAnd, bitOr}
-use lib.Dec.{eqb, ltb}
+use lib.Dec.{ltb}
 use lib.ListN.{length, set, length-set}
 use lib.Seq.{getD-set-same, getD-set-other}
-use borrow.Author.Tests.{eqb-true, eq-eqb, ne-eqb, ltb-true, ltb-false}
+use borrow.Author.Tests.{ltb-true, ltb-false}
 use Rattle.problem.specs.declared.Arc.{Arc}
 use Rattle.problem.specs.Table.{mostArcMetres, mostReach, SoundArc}
-use Rattle.problem.specs.Routes.{arcAt, metresOf, risksOf}
-use Rattle.side.specs.declared.Entry.{Entry}
+use Rattle.problem.specs.declared.Exposure.{Exposure}
+use Rattle.problem.specs.Exposures.{toNothing, ofArc, joined, disjoint}
+use Rattle.problem.specs.Routes.{arcAt, metresOf, exposureOf}
+use Rattle.side.specs.declared.Distance.{Distance}
 use Rattle.side.specs.declared.Side.{Side}
-use Rattle.side.specs.Side.{unreached, entryAt, reachedAt, metresAt, risksAt, Reaches, Entries}
+use Rattle.side.specs.Side.{unreached, entryAt, reachedAt, metresAt, exposureAt, Reaches, Entries}
 use Rattle.side.specs.Relaxing.{over, isNearer, nearerOf, relaxedIn, gainsBy, Fits}
 use Rattle.side.proofs.StoreLaws.{total, count, total-set, count-le, count-new, count-again}
 use Rattle.side.proofs.FreeLaws.{free-over}
 
 -- ---- two entries: what the code returns, test by test
 
-module _ (tail head : Entry) (metres : ℕ) where
+module _ (tail head : Distance) (metres : ℕ) where
   pub nearer-unreached : head .reached ≡ false → false ≡ isNearer tail head metres
   unfolding isNearer
   nearer-unreached h = rw h
@@ -50,7 +51,7 @@ module _ (tail head : Entry) (metres : ℕ) where
 unfoldable pub metresBy : Side → Arc → ℕ
 metresBy s a = metresAt s (a .head) + a .metres
 
-abbrev pub gains : ℕ → Side → Arc → Bool
+abbrev pub gains : Exposure → Side → Arc → Bool
 gains banned s a = gainsBy banned a (entryAt s (a .tail)) (entryAt s (a .head))
 
 -- the tail's entry made anew
@@ -58,12 +59,12 @@ unfoldable pub nearer : Side → Arc → Side
 nearer s a =
     record {
       entries = set (s .entries) (a .tail) (over (entryAt s (a .head)) (a .metres));
-      risks = set (s .risks) (a .tail) (bitOr (a .risks) (risksAt s (a .head)));
+      exposures = set (s .exposures) (a .tail) (joined (ofArc a) (exposureAt s (a .head)));
     }
 
 -- the arc is free, its head is reached, and its tail is not reached or gets nearer
-pub record Gained (banned : ℕ) (s : Side) (a : Arc) : Type 0 where
-  pub free : bitAnd (a .risks) banned ≡ 0
+pub record Gained (banned : Exposure) (s : Side) (a : Arc) : Type 0 where
+  pub free : disjoint (ofArc a) banned ≡ true
   pub head-reached : reachedAt s (a .head) ≡ true
   pub tail-nearer : (reachedAt s (a .tail) ≡ false) ⊎ (metresBy s a < metresAt s (a .tail))
 
@@ -82,41 +83,41 @@ tests-failed true false p = (refl, refl)
 tests-failed true true p = absurd (false≢true (sym p))
 tests-failed false l p = absurd (false≢true (sym p))
 
-module _ (banned : ℕ) (s : Side) (a : Arc) where
+module _ (banned : Exposure) (s : Side) (a : Arc) where
   pub gains-gained : gains banned s a ≡ true → Gained banned s a
   unfolding gainsBy isNearer metresBy
   gains-gained e =
-      let t = tests-held (eqb (bitAnd (a .risks) banned) 0) (reachedAt s (a .head)) (reachedAt s (a .tail)) (ltb (metresBy s a) (metresAt s (a .tail))) e in
-      record { free = eqb-true _ _ (t .0); head-reached = t .1; tail-nearer = ⊎-elim inl (λ l. inr (ltb-true _ _ l)) (t .2) }
+      let t = tests-held (disjoint (ofArc a) banned) (reachedAt s (a .head)) (reachedAt s (a .tail)) (ltb (metresBy s a) (metresAt s (a .tail))) e in
+      record { free = t .0; head-reached = t .1; tail-nearer = ⊎-elim inl (λ l. inr (ltb-true _ _ l)) (t .2) }
 
   -- a free arc with a reached head that gains nothing: its tail is near enough
-  pub gains-not : gains banned s a ≡ false → bitAnd (a .risks) banned ≡ 0 → reachedAt s (a .head) ≡ true → (reachedAt s (a .tail) ≡ true) × (metresAt s (a .tail) ≤ metresBy s a)
+  pub gains-not : gains banned s a ≡ false → disjoint (ofArc a) banned ≡ true → reachedAt s (a .head) ≡ true → (reachedAt s (a .tail) ≡ true) × (metresAt s (a .tail) ≤ metresBy s a)
   unfolding gainsBy isNearer metresBy
   gains-not e f h =
-      let t = tests-failed (reachedAt s (a .tail)) (ltb (metresBy s a) (metresAt s (a .tail))) (rw (eq-eqb _ _ f, h) at e) in
+      let t = tests-failed (reachedAt s (a .tail)) (ltb (metresBy s a) (metresAt s (a .tail))) (rw (f, h) at e) in
       (t .0, ltb-false _ _ (t .1))
 
   -- where an arc gains, relaxing it makes the tail's entry anew
-  pub relaxed-nearer : (es : List Entry) (risks : List ℕ) → gains banned s a ≡ true → es ≡ relaxedIn (s .entries) (a .tail) (a .head) (a .metres)
-      → risks ≡ set (s .risks) (a .tail) (bitOr (a .risks) (risksAt s (a .head))) → _≡_ {A = Side} (record { entries = es; risks = risks }) (nearer s a)
+  pub relaxed-nearer : (es : List Distance) (exposures : List Exposure) → gains banned s a ≡ true → es ≡ relaxedIn (s .entries) (a .tail) (a .head) (a .metres)
+      → exposures ≡ set (s .exposures) (a .tail) (joined (ofArc a) (exposureAt s (a .head))) → _≡_ {A = Side} (record { entries = es; exposures = exposures }) (nearer s a)
   unfolding gainsBy relaxedIn nearer
-  relaxed-nearer es risks e is-relaxed is-risks =
-      rw (is-relaxed, is-risks, ← nearer-if (entryAt s (a .tail)) (entryAt s (a .head)) (a .metres) (last-held (eqb (bitAnd (a .risks) banned) 0) _ e))
+  relaxed-nearer es exposures e is-relaxed is-exposures =
+      rw (is-relaxed, is-exposures, ← nearer-if (entryAt s (a .tail)) (entryAt s (a .head)) (a .metres) (last-held (disjoint (ofArc a) banned) _ e))
 
 -- what the code of `gains` returns
-module _ (banned : ℕ) (a : Arc) (tail head : Entry) where
-  pub gains-banned : (bitAnd (a .risks) banned ≡ 0 → ⊥) → false ≡ gainsBy banned a tail head
+module _ (banned : Exposure) (a : Arc) (tail head : Distance) where
+  pub gains-banned : disjoint (ofArc a) banned ≡ false → false ≡ gainsBy banned a tail head
   unfolding gainsBy
-  gains-banned n = rw (ne-eqb _ _ n)
+  gains-banned n = rw n
 
-  pub gains-free : bitAnd (a .risks) banned ≡ 0 → isNearer tail head (a .metres) ≡ gainsBy banned a tail head
+  pub gains-free : disjoint (ofArc a) banned ≡ true → isNearer tail head (a .metres) ≡ gainsBy banned a tail head
   unfolding gainsBy
-  gains-free f = rw (eq-eqb _ _ f)
+  gains-free f = rw f
 
 -- ---- the table that an arc leaves
 
 module _ (s : Side) (a : Arc) where
-  abbrev over-arc : Entry
+  abbrev over-arc : Distance
   over-arc = over (entryAt s (a .head)) (a .metres)
 
   entry-tail : a .tail < length (s .entries) → entryAt (nearer s a) (a .tail) ≡ over-arc
@@ -127,33 +128,33 @@ module _ (s : Side) (a : Arc) where
   unfolding nearer
   entry-other v n = getD-set-other (s .entries) (a .tail) v over-arc unreached n
 
-  risks-tail : a .tail < length (s .risks) → risksAt (nearer s a) (a .tail) ≡ bitOr (a .risks) (risksAt s (a .head))
+  exposure-tail : a .tail < length (s .exposures) → exposureAt (nearer s a) (a .tail) ≡ joined (ofArc a) (exposureAt s (a .head))
   unfolding nearer
-  risks-tail h = getD-set-same (s .risks) (a .tail) (bitOr (a .risks) (risksAt s (a .head))) 0 h
+  exposure-tail h = getD-set-same (s .exposures) (a .tail) (joined (ofArc a) (exposureAt s (a .head))) toNothing h
 
-  risks-other : (v : ℕ) → (v ≡ a .tail → ⊥) → risksAt (nearer s a) v ≡ risksAt s v
+  exposure-other : (v : ℕ) → (v ≡ a .tail → ⊥) → exposureAt (nearer s a) v ≡ exposureAt s v
   unfolding nearer
-  risks-other v n = getD-set-other (s .risks) (a .tail) v (bitOr (a .risks) (risksAt s (a .head))) 0 n
+  exposure-other v n = getD-set-other (s .exposures) (a .tail) v (joined (ofArc a) (exposureAt s (a .head))) toNothing n
 
   reached-tail : a .tail < length (s .entries) → reachedAt (nearer s a) (a .tail) ≡ true
   unfolding over
-  reached-tail h = ap (λ (e : Entry). e .reached) (entry-tail h)
+  reached-tail h = ap (λ (e : Distance). e .reached) (entry-tail h)
 
   metres-tail : a .tail < length (s .entries) → metresAt (nearer s a) (a .tail) ≡ metresBy s a
   unfolding over metresBy
-  metres-tail h = ap (λ (e : Entry). e .metres) (entry-tail h)
+  metres-tail h = ap (λ (e : Distance). e .metres) (entry-tail h)
 
 -- ---- lengths stay small
 
 -- lengths so small that sums fit: each node reached, but for the terminal, adds one arc at the most
 pub record Small (s : Side) : Type 0 where
   pub entries-size : length (s .entries) ≡ 32
-  pub risks-size : length (s .risks) ≡ 32
+  pub exposures-size : length (s .exposures) ≡ 32
   pub arc-each : (v : ℕ) → metresAt s v + mostArcMetres ≤ mostArcMetres * count (s .entries)
 
 -- falls with each arc that gains: one is nearer, or a node more is reached, which weighs more than any length
 unfoldable pub cost : Side → ℕ
-cost s = total (λ (e : Entry). e .metres) (s .entries) + 100000000 * (32 - count (s .entries))
+cost s = total (λ (e : Distance). e .metres) (s .entries) + 100000000 * (32 - count (s .entries))
 
 pub small-most : {s : Side} → Small s → (v : ℕ) → metresAt s v ≤ mostReach
 small-most {s} small v = omega (arith, small .arc-each v, count-le (s .entries), small .entries-size)
@@ -165,12 +166,12 @@ small-fits {s} {a} small sound = omega (arith, small .entries-size, small-most s
 -- the arc's tail has an entry
 record HasEntry (s : Side) (v : ℕ) : Type 0 where
   pub in-entries : v < length (s .entries)
-  pub in-risks : v < length (s .risks)
+  pub in-exposures : v < length (s .exposures)
 
 tail-entry : {s : Side} {a : Arc} → SoundArc a → Small s → HasEntry s (a .tail)
-tail-entry sound small = omega (arith, sound .tail-node, small .entries-size, small .risks-size)
+tail-entry sound small = omega (arith, sound .tail-node, small .entries-size, small .exposures-size)
 
-module _ (banned : ℕ) (s : Side) (a : Arc) (sound : SoundArc a) (small : Small s) (gain : Gained banned s a) where
+module _ (banned : Exposure) (s : Side) (a : Arc) (sound : SoundArc a) (small : Small s) (gain : Gained banned s a) where
   tail-inside : a .tail < length (s .entries)
   tail-inside = tail-entry sound small .in-entries
 
@@ -200,20 +201,20 @@ module _ (banned : ℕ) (s : Side) (a : Arc) (sound : SoundArc a) (small : Small
   unfolding nearer
   small-nearer = record {
     entries-size = length-set (s .entries) (a .tail) _ ∙ small .entries-size;
-    risks-size = length-set (s .risks) (a .tail) _ ∙ small .risks-size;
+    exposures-size = length-set (s .exposures) (a .tail) _ ∙ small .exposures-size;
     arc-each = λ v. go v (ℕ-discrete v (a .tail));
   }
     where
       go : (v : ℕ) → Dec (v ≡ a .tail) → metresAt (nearer s a) v + mostArcMetres ≤ mostArcMetres * after
       go v (yes e) = omega (arith, ap (metresAt (nearer s a)) e, metres-tail s a tail-inside, new-small .0)
-      go v (no n) = omega (arith, ap (λ (e : Entry). e .metres) (entry-other s a v n), small .arc-each v, new-small .1)
+      go v (no n) = omega (arith, ap (λ (e : Distance). e .metres) (entry-other s a v n), small .arc-each v, new-small .1)
 
   pub cost-nearer : cost (nearer s a) < cost s
   unfolding cost nearer over metresBy
   cost-nearer = go (reachedAt s (a .tail)) refl (gain .tail-nearer)
     where
-      lengths : total (λ (e : Entry). e .metres) (nearer s a .entries) + metresAt s (a .tail) ≡ total (λ (e : Entry). e .metres) (s .entries) + metresBy s a
-      lengths = total-set (λ (e : Entry). e .metres) (s .entries) (a .tail) _ tail-inside
+      lengths : total (λ (e : Distance). e .metres) (nearer s a .entries) + metresAt s (a .tail) ≡ total (λ (e : Distance). e .metres) (s .entries) + metresBy s a
+      lengths = total-set (λ (e : Distance). e .metres) (s .entries) (a .tail) _ tail-inside
 
       full : after ≤ 32
       full = omega (arith, count-le (nearer s a .entries), small-nearer .entries-size)
@@ -225,24 +226,24 @@ module _ (banned : ℕ) (s : Side) (a : Arc) (sound : SoundArc a) (small : Small
 
 -- ---- entries stay those of free ways
 
-reaches-is : {arcs : List Arc} {terminal banned v m r n q : ℕ} → Reaches arcs terminal banned v m r → m ≡ n → r ≡ q → Reaches arcs terminal banned v n q
-reaches-is h e f = record { list = h .list; free-way = h .free-way; same-metres = h .same-metres ∙ e; same-risks = h .same-risks ∙ f }
+reaches-is : {arcs : List Arc} {terminal v m n : ℕ} {banned r q : Exposure} → Reaches arcs terminal banned v m r → m ≡ n → r ≡ q → Reaches arcs terminal banned v n q
+reaches-is h e f = record { list = h .list; free-way = h .free-way; same-metres = h .same-metres ∙ e; same-exposure = h .same-exposure ∙ f }
 
-module _ (arcs : List Arc) (terminal banned : ℕ) (s : Side) (k : ℕ) (inside : k < length arcs) (sound : SoundArc (arcAt arcs k)) (small : Small s)
+module _ (arcs : List Arc) (terminal : ℕ) (banned : Exposure) (s : Side) (k : ℕ) (inside : k < length arcs) (sound : SoundArc (arcAt arcs k)) (small : Small s)
     (gain : Gained banned s (arcAt arcs k)) (entries : Entries arcs terminal banned s) where
   abbrev a : Arc
   a = arcAt arcs k
 
   -- the tail's new entry: the arc, and then the head's way
-  new-reaches : Reaches arcs terminal banned (a .tail) (metresBy s a) (bitOr (a .risks) (risksAt s (a .head)))
-  unfolding metresBy metresOf risksOf
+  new-reaches : Reaches arcs terminal banned (a .tail) (metresBy s a) (joined (ofArc a) (exposureAt s (a .head)))
+  unfolding metresBy metresOf exposureOf
   new-reaches =
       let h = entries .reaches (a .head) (gain .head-reached) in
       record {
         list = k ∷ h .list;
-        free-way = free-over arcs banned terminal k inside (gain .free) (h .free-way);
+        free-way = free-over arcs banned k (h .list) terminal inside (gain .free) (h .free-way);
         same-metres = omega (arith, h .same-metres);
-        same-risks = ap (bitOr (a .risks)) (h .same-risks);
+        same-exposure = ap (joined (ofArc a)) (h .same-exposure);
       }
 
   -- the terminal is reached with 0 metres, and nothing is nearer
@@ -256,7 +257,7 @@ module _ (arcs : List Arc) (terminal banned : ℕ) (s : Side) (k : ℕ) (inside 
   entries-nearer = record {
     reaches = λ v e. reaches-at v e (ℕ-discrete v (a .tail));
     no-metres = λ v e. none-at v e (ℕ-discrete v (a .tail)) .0;
-    no-risks = λ v e. none-at v e (ℕ-discrete v (a .tail)) .1;
+    no-exposure = λ v e. none-at v e (ℕ-discrete v (a .tail)) .1;
     terminal-reached = other-reached terminal not-terminal ∙ entries .terminal-reached;
     terminal-metres = other-metres terminal not-terminal ∙ entries .terminal-metres;
   }
@@ -265,17 +266,17 @@ module _ (arcs : List Arc) (terminal banned : ℕ) (s : Side) (k : ℕ) (inside 
       has = tail-entry sound small
 
       other-reached : (v : ℕ) → (v ≡ a .tail → ⊥) → reachedAt (nearer s a) v ≡ reachedAt s v
-      other-reached v n = ap (λ (e : Entry). e .reached) (entry-other s a v n)
+      other-reached v n = ap (λ (e : Distance). e .reached) (entry-other s a v n)
 
       other-metres : (v : ℕ) → (v ≡ a .tail → ⊥) → metresAt (nearer s a) v ≡ metresAt s v
-      other-metres v n = ap (λ (e : Entry). e .metres) (entry-other s a v n)
+      other-metres v n = ap (λ (e : Distance). e .metres) (entry-other s a v n)
 
-      reaches-at : (v : ℕ) → reachedAt (nearer s a) v ≡ true → Dec (v ≡ a .tail) → Reaches arcs terminal banned v (metresAt (nearer s a) v) (risksAt (nearer s a) v)
-      reaches-at v e (yes q) = rw q (reaches-is new-reaches (sym (metres-tail s a (has .in-entries))) (sym (risks-tail s a (has .in-risks))))
-      reaches-at v e (no n) = reaches-is (entries .reaches v (sym (other-reached v n) ∙ e)) (sym (other-metres v n)) (sym (risks-other s a v n))
+      reaches-at : (v : ℕ) → reachedAt (nearer s a) v ≡ true → Dec (v ≡ a .tail) → Reaches arcs terminal banned v (metresAt (nearer s a) v) (exposureAt (nearer s a) v)
+      reaches-at v e (yes q) = rw q (reaches-is new-reaches (sym (metres-tail s a (has .in-entries))) (sym (exposure-tail s a (has .in-exposures))))
+      reaches-at v e (no n) = reaches-is (entries .reaches v (sym (other-reached v n) ∙ e)) (sym (other-metres v n)) (sym (exposure-other s a v n))
 
-      none-at : (v : ℕ) → reachedAt (nearer s a) v ≡ false → Dec (v ≡ a .tail) → (metresAt (nearer s a) v ≡ 0) × (risksAt (nearer s a) v ≡ 0)
+      none-at : (v : ℕ) → reachedAt (nearer s a) v ≡ false → Dec (v ≡ a .tail) → (metresAt (nearer s a) v ≡ 0) × (exposureAt (nearer s a) v ≡ toNothing)
       none-at v e (yes q) = absurd (false≢true (sym e ∙ (ap (reachedAt (nearer s a)) q ∙ reached-tail s a (has .in-entries))))
       none-at v e (no n) =
           let f : reachedAt s v ≡ false = sym (other-reached v n) ∙ e in
-          (other-metres v n ∙ entries .no-metres v f, risks-other s a v n ∙ entries .no-risks v f)
+          (other-metres v n ∙ entries .no-metres v f, exposure-other s a v n ∙ entries .no-exposure v f)

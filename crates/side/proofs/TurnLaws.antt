@@ -8,18 +8,20 @@ use Prim.Native.Nat.{ℕ, zero, suc, _+_, _*_, _-_, _≤_, _<_}
 use native.Mathlib.Decide.{ℕ-discrete}
 use native.Mathlib.Nat.{mul-le-mul-right, suc-mul}
 use native.Mathlib.Omega.{arith}
-use lib.Bits.{bitAnd, and-zero-l}
 use lib.Dec.{eqb, ltb}
 use lib.ListN.{length, getD, set, replicate, length-set, length-replicate}
 use lib.Seq.{getD-set-same, getD-set-other}
 use borrow.Author.Tests.{eqb-true, eqb-false, ltb-true, ltb-false}
 use Rattle.laws.proofs.SetLaws.{digit}
-use Rattle.problem.specs.Table.{SoundArc}
+use Rattle.problem.specs.Table.{lastNode, SoundArc}
 use Rattle.problem.specs.declared.Arc.{Arc}
-use Rattle.problem.specs.Routes.{arcAt, metresOf, risksOf, Way}
-use Rattle.side.specs.declared.Entry.{Entry}
+use Rattle.problem.specs.declared.Exposure.{Exposure}
+use Rattle.problem.specs.Exposures.{toNothing, disjoint}
+use Rattle.problem.specs.Routes.{arcAt, metresOf, exposureOf, Way}
+use Rattle.problem.proofs.ExposureLaws.{nothing-disjoint}
+use Rattle.side.specs.declared.Distance.{Distance}
 use Rattle.side.specs.declared.Side.{Side}
-use Rattle.side.specs.Side.{unreached, entryAt, reachedAt, metresAt, risksAt, Reaches, Entries, SideTable}
+use Rattle.side.specs.Side.{unreached, entryAt, reachedAt, metresAt, exposureAt, Reaches, Entries, SideTable}
 use Rattle.side.specs.Relaxing.{turnAfter, startOf}
 use Rattle.side.proofs.StoreLaws.{total, count, count-new}
 use Rattle.side.proofs.FreeLaws.{free-first, free-rest}
@@ -28,12 +30,12 @@ use Rattle.side.proofs.RelaxLaws.{metresBy, gains, nearer, gains-gained
 -- ---- an arc that gains
 
 -- lengths are small, and entries are those of free ways
-pub record Fair (arcs : List Arc) (terminal banned : ℕ) (s : Side) : Type 0 where
+pub record Fair (arcs : List Arc) (terminal : ℕ) (banned : Exposure) (s : Side) : Type 0 where
   pub small : Small s
   pub entries : Entries arcs terminal banned s
 
 -- the table that it leaves is fair, and costs less
-pub nearer-turn : (arcs : List Arc) (terminal banned : ℕ) (s t : Side) (k : ℕ) → k < length arcs → (a : Arc) → a ≡ arcAt arcs k → SoundArc a → Fair arcs terminal banned s
+pub nearer-turn : (arcs : List Arc) (terminal : ℕ) (banned : Exposure) (s t : Side) (k : ℕ) → k < length arcs → (a : Arc) → a ≡ arcAt arcs k → SoundArc a → Fair arcs terminal banned s
     → gains banned s a ≡ true → t ≡ nearer s a → Fair arcs terminal banned t × (cost t < cost s)
 nearer-turn arcs terminal banned s t k inside a is sound fair g made =
     let gained = gains-gained banned s a g in
@@ -52,11 +54,11 @@ turns-less c d m left again h l = omega (arith, mul-le-mul-right m h, suc-mul c 
 -- ---- arcs that gain nothing
 
 -- no arc brings a node nearer
-abbrev pub Settled : List Arc → ℕ → Side → Type 0
+abbrev pub Settled : List Arc → Exposure → Side → Type 0
 Settled arcs banned s = (k : ℕ) → k < length arcs → gains banned s (arcAt arcs k) ≡ false
 
 -- no arc does but for the `left` whose turns come next, from k's on: those that follow them, and those before k that the turns do not come round to
-pub record Idle (arcs : List Arc) (banned : ℕ) (s : Side) (k left : ℕ) : Type 0 where
+pub record Idle (arcs : List Arc) (banned : Exposure) (s : Side) (k left : ℕ) : Type 0 where
   pub ahead : (j : ℕ) → k + left ≤ j → j < length arcs → gains banned s (arcAt arcs j) ≡ false
   pub behind : (j : ℕ) → j < k → k + left ≤ j + length arcs → gains banned s (arcAt arcs j) ≡ false
 
@@ -71,7 +73,7 @@ turn-is k n = turn-by k n (eqb (k + 1) n) refl
 pub turn-inside : (k n : ℕ) → k < n → turnAfter k n < n
 turn-inside k n h = ⊎-elim (λ e. omega (arith, e .0, e .1)) (λ e. omega (arith, e .0, e .1)) (turn-is k n)
 
-module _ (arcs : List Arc) (banned : ℕ) (s : Side) (n : ℕ) (size : length arcs ≡ n) where
+module _ (arcs : List Arc) (banned : Exposure) (s : Side) (n : ℕ) (size : length arcs ≡ n) where
   -- all are still to be asked
   pub idle-none : (k : ℕ) → k ≤ n → Idle arcs banned s k n
   idle-none k h = record { ahead = λ j l i. absurd (omega (arith, size)); behind = λ j l i. absurd (omega (arith, size)) }
@@ -96,14 +98,14 @@ module _ (arcs : List Arc) (banned : ℕ) (s : Side) (n : ℕ) (size : length ar
 
 -- ---- the settled table
 
-module _ (arcs : List Arc) (terminal banned : ℕ) (s : Side) (fair : Fair arcs terminal banned s) (settled : Settled arcs banned s) where
+module _ (arcs : List Arc) (terminal : ℕ) (banned : Exposure) (s : Side) (fair : Fair arcs terminal banned s) (settled : Settled arcs banned s) where
   -- every free way starts at a reached node, and is no shorter than its entry
-  way-least : {v : ℕ} {ks : List ℕ} → Way arcs v terminal ks → bitAnd (risksOf arcs ks) banned ≡ 0 → (reachedAt s v ≡ true) × (metresAt s v ≤ metresOf arcs ks)
-  unfolding metresOf risksOf metresBy
+  way-least : {v : ℕ} {ks : List ℕ} → Way arcs v terminal ks → disjoint (exposureOf arcs ks) banned ≡ true → (reachedAt s v ≡ true) × (metresAt s v ≤ metresOf arcs ks)
+  unfolding metresOf metresBy
   way-least (Way.there e) f = (ap (reachedAt s) e ∙ fair .entries .terminal-reached, omega (arith, ap (metresAt s) e, fair .entries .terminal-metres))
   way-least (Way.over {k = k} {ks = ks} h t w) f =
-      let i = way-least w (free-rest (arcAt arcs k .risks) (risksOf arcs ks) banned f) in
-      let n = gains-not banned s (arcAt arcs k) (settled k h) (free-first (arcAt arcs k .risks) (risksOf arcs ks) banned f) (i .0) in
+      let i = way-least w (free-rest arcs banned k ks f) in
+      let n = gains-not banned s (arcAt arcs k) (settled k h) (free-first arcs banned k ks f) (i .0) in
       (ap (reachedAt s) (sym t) ∙ n .0, omega (arith, ap (metresAt s) t, n .1, i .1))
 
   pub settled-table : SideTable arcs terminal banned s
@@ -116,26 +118,21 @@ module _ (arcs : List Arc) (terminal banned : ℕ) (s : Side) (fair : Fair arcs 
 
 -- ---- the table before any arc is relaxed
 
-zeros : (n v : ℕ) → getD {A = ℕ} (replicate n 0) v 0 ≡ 0
-zeros zero v = refl
-zeros (suc n) zero = refl
-zeros (suc n) (suc v) = zeros n v
-
-none-reached : (n v : ℕ) → getD (replicate n unreached) v unreached ≡ unreached
-none-reached zero v = refl
-none-reached (suc n) zero = refl
-none-reached (suc n) (suc v) = none-reached n v
+getD-replicate : {A : Type 0} (d : A) (n v : ℕ) → getD (replicate n d) v d ≡ d
+getD-replicate d zero v = refl
+getD-replicate d (suc n) zero = refl
+getD-replicate d (suc n) (suc v) = getD-replicate d n v
 
 no-count : (n : ℕ) → count (replicate n unreached) ≡ 0
 unfolding total digit
 no-count zero = refl
 no-count (suc n) = omega (arith, no-count n)
 
--- the entries, and no risks
+-- the entries, exposed to nothing
 abbrev pub startTable : (terminal : ℕ) → Side
-startTable terminal = record { entries = startOf terminal; risks = replicate 32 0 }
+startTable terminal = record { entries = startOf terminal; exposures = replicate 32 toNothing }
 
-module _ (terminal : ℕ) (h : terminal < 32) where
+module _ (terminal : ℕ) (h : terminal ≤ lastNode) where
   inside : terminal < length (replicate 32 unreached)
   inside = omega (arith, length-replicate 32 unreached)
 
@@ -145,42 +142,42 @@ module _ (terminal : ℕ) (h : terminal < 32) where
 
   start-other : (v : ℕ) → (v ≡ terminal → ⊥) → entryAt (startTable terminal) v ≡ unreached
   unfolding startOf
-  start-other v n = getD-set-other (replicate 32 unreached) terminal v (record { metres = 0; reached = true }) unreached n ∙ none-reached 32 v
+  start-other v n = getD-set-other (replicate 32 unreached) terminal v (record { metres = 0; reached = true }) unreached n ∙ getD-replicate unreached 32 v
 
   start-metres : (v : ℕ) → metresAt (startTable terminal) v ≡ 0
   start-metres v = go (ℕ-discrete v terminal)
     where
       go : Dec (v ≡ terminal) → metresAt (startTable terminal) v ≡ 0
-      go (yes q) = ap (metresAt (startTable terminal)) q ∙ ap (λ (e : Entry). e .metres) start-terminal
-      go (no n) = ap (λ (e : Entry). e .metres) (start-other v n)
+      go (yes q) = ap (metresAt (startTable terminal)) q ∙ ap (λ (e : Distance). e .metres) start-terminal
+      go (no n) = ap (λ (e : Distance). e .metres) (start-other v n)
 
-  start-risks : (v : ℕ) → risksAt (startTable terminal) v ≡ 0
-  start-risks v = zeros 32 v
+  start-exposure : (v : ℕ) → exposureAt (startTable terminal) v ≡ toNothing
+  start-exposure v = getD-replicate toNothing 32 v
 
   start-small : Small (startTable terminal)
   unfolding startOf
   start-small = record {
     entries-size = length-set (replicate 32 unreached) terminal _ ∙ length-replicate 32 unreached;
-    risks-size = length-replicate {A = ℕ} 32 0;
+    exposures-size = length-replicate 32 toNothing;
     arc-each = λ v. omega (arith, start-metres v, one);
   }
     where
       one : count (set (replicate 32 unreached) terminal (record { metres = 0; reached = true })) ≡ 1
-      one = count-new (replicate 32 unreached) terminal _ inside (ap (λ (e : Entry). e .reached) (none-reached 32 terminal)) refl ∙ ap suc (no-count 32)
+      one = count-new (replicate 32 unreached) terminal _ inside (ap (λ (e : Distance). e .reached) (getD-replicate unreached 32 terminal)) refl ∙ ap suc (no-count 32)
 
-  pub start-fair : (arcs : List Arc) (banned : ℕ) → Fair arcs terminal banned (startTable terminal)
-  unfolding metresOf risksOf
+  pub start-fair : (arcs : List Arc) (banned : Exposure) → Fair arcs terminal banned (startTable terminal)
+  unfolding metresOf exposureOf
   start-fair arcs banned = record {
     small = start-small;
     entries = record {
       reaches = λ v e. at v e (ℕ-discrete v terminal);
       no-metres = λ v e. start-metres v;
-      no-risks = λ v e. start-risks v;
-      terminal-reached = ap (λ (e : Entry). e .reached) start-terminal;
+      no-exposure = λ v e. start-exposure v;
+      terminal-reached = ap (λ (e : Distance). e .reached) start-terminal;
       terminal-metres = start-metres terminal;
     };
   }
     where
-      at : (v : ℕ) → reachedAt (startTable terminal) v ≡ true → Dec (v ≡ terminal) → Reaches arcs terminal banned v (metresAt (startTable terminal) v) (risksAt (startTable terminal) v)
-      at v e (yes q) = record { list = []; free-way = record { way = Way.there q; free = and-zero-l banned }; same-metres = sym (start-metres v); same-risks = sym (start-risks v) }
-      at v e (no n) = absurd (false≢true (sym (ap (λ (x : Entry). x .reached) (start-other v n)) ∙ e))
+      at : (v : ℕ) → reachedAt (startTable terminal) v ≡ true → Dec (v ≡ terminal) → Reaches arcs terminal banned v (metresAt (startTable terminal) v) (exposureAt (startTable terminal) v)
+      at v e (yes q) = record { list = []; free-way = record { way = Way.there q; free = nothing-disjoint banned }; same-metres = sym (start-metres v); same-exposure = sym (start-exposure v) }
+      at v e (no n) = absurd (false≢true (sym (ap (λ (x : Distance). x .reached) (start-other v n)) ∙ e))

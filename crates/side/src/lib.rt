@@ -1,28 +1,29 @@
-// The side table: for each node the shortest length to the terminal over arcs free of the banned risks (01, When a reply is settled).
+// The side table: for each node the shortest length to the terminal over arcs that are exposed to nothing banned (01, When a reply is settled).
 use problem::Arc;
+use problem::Exposure;
 ghost use mathlib.Core.Path.{_≡_};
 ghost use mathlib.Core.Bool.{true};
 ghost use Prim.Native.Nat.{_+_, _*_, _≤_, _<_, _^_};
 ghost use lib.ListN.{length};
-ghost use Rattle.problem.specs.Table.{arcsOf, allSound, SoundArc};
+ghost use Rattle.problem.specs.Table.{lastNode, arcsOf, allSound, SoundArc};
 ghost use Rattle.problem.specs.Routes.{arcAt};
 ghost use Rattle.side.specs.Side.{SideTable};
 ghost use Rattle.side.specs.Relaxing.{Fits, isNearer, nearerOf, relaxedIn, gainsBy, turnAfter, startOf};
 
 // What the table says of a node: the shortest length, and whether the terminal can be reached at all.
-pub struct Entry {
+pub struct Distance {
     pub metres: u32,
     pub reached: bool,
 }
 
-// One entry per node, and the risks of one way of that length.
+// One entry per node, and what one way of that length is exposed to.
 pub struct Side {
-    pub entries: [Entry; arcs::NODES],
-    pub risks: [u64; arcs::NODES],
+    pub entries: [Distance; problem::NODES],
+    pub exposures: [Exposure; problem::NODES],
 }
 
 // Whether an arc of these metres brings its tail nearer, by the entries of its tail and its head.
-fn is_nearer(tail: Entry, head: Entry, metres: u32) -> bool
+fn is_nearer(tail: Distance, head: Distance, metres: u32) -> bool
     requires { ⌜ head .metres + metres < 2 ^ 32 ⌝ }
     ensures { λ o. ⌜ o ≡ isNearer tail head metres ⌝ }
 {
@@ -36,21 +37,21 @@ fn is_nearer(tail: Entry, head: Entry, metres: u32) -> bool
 }
 
 // The tail's entry once the arc is relaxed: over the arc and on as its head's entry says, where that is nearer.
-fn nearer(tail: Entry, head: Entry, metres: u32) -> Entry
+fn nearer(tail: Distance, head: Distance, metres: u32) -> Distance
     requires { ⌜ head .metres + metres < 2 ^ 32 ⌝ }
     ensures { λ o. ⌜ o ≡ nearerOf tail head metres ⌝ }
 {
     if !is_nearer(tail, head, metres) {
         return tail;
     }
-    Entry {
+    Distance {
         metres: head.metres + metres,
         reached: true,
     }
 }
 
 // Relaxes an arc in a lent table: its tail's entry becomes what `nearer` says.
-fn relax(entries: &mut [Entry], tail: usize, head: usize, metres: u32)
+fn relax(entries: &mut [Distance], tail: usize, head: usize, metres: u32)
     requires { ⌜ Fits (now entries) tail head metres ⌝ }
     ensures { λ _. ⌜ now (entries .exit) ≡ relaxedIn (now (entries .entry)) tail head metres ⌝ }
 {
@@ -62,11 +63,11 @@ fn relax(entries: &mut [Entry], tail: usize, head: usize, metres: u32)
 
 // Lends a table to `relax`, so that its own callers hold theirs by value and need no walk.
 fn relax_in(
-    entries: [Entry; arcs::NODES],
+    entries: [Distance; problem::NODES],
     tail: usize,
     head: usize,
     metres: u32,
-) -> [Entry; arcs::NODES]
+) -> [Distance; problem::NODES]
     requires { ⌜ Fits entries tail head metres ⌝ }
     ensures { λ o. ⌜ o ≡ relaxedIn entries tail head metres ⌝ }
 {
@@ -76,11 +77,12 @@ fn relax_in(
 }
 
 // Whether the arc is free and brings its tail nearer.
-fn gains(a: Arc, banned: u64, tail: Entry, head: Entry) -> bool
+fn gains(a: Arc, banned: Exposure, tail: Distance, head: Distance) -> bool
     requires { ⌜ head .metres + a .metres < 2 ^ 32 ⌝ }
     ensures { λ o. ⌜ o ≡ gainsBy banned a tail head ⌝ }
 {
-    if a.risks & banned != 0 {
+    let own = exposure::of_arc(a);
+    if !exposure::is_disjoint(own, banned) {
         return false;
     }
     is_nearer(tail, head, a.metres)
@@ -106,16 +108,16 @@ fn turn_after(k: usize, n: usize) -> usize
 }
 
 // The entries before any arc is relaxed: only the terminal is reached.
-fn start(terminal: usize) -> [Entry; arcs::NODES]
-    requires { ⌜ terminal < 32 ⌝ }
+fn start(terminal: usize) -> [Distance; problem::NODES]
+    requires { ⌜ terminal ≤ lastNode ⌝ }
     ensures { λ r. ⌜ r ≡ startOf terminal ⌝ }
 {
-    let unreached = Entry {
+    let unreached = Distance {
         metres: 0,
         reached: false,
     };
-    let mut entries = [unreached; arcs::NODES];
-    entries[terminal] = Entry {
+    let mut entries = [unreached; problem::NODES];
+    entries[terminal] = Distance {
         metres: 0,
         reached: true,
     };
@@ -124,14 +126,15 @@ fn start(terminal: usize) -> [Entry; arcs::NODES]
 
 // The side table. The arcs take turns until all have gained nothing since an entry last changed; `left` counts those that are still to be asked.
 // Lending copies the entries there and back, so they are lent only for an arc that gains.
-pub fn side_table(table: &[u8], terminal: u8, banned: u64) -> Side
-    requires { ⌜ terminal < 32 ⌝ }
+pub fn side_table(table: &[u8], terminal: u8, banned: Exposure) -> Side
+    requires { ⌜ terminal ≤ lastNode ⌝ }
     requires { ⌜ allSound (arcsOf (now table)) ≡ true ⌝ }
     ensures { λ s. ⌜ SideTable (arcsOf (now (table .entry))) terminal banned s ⌝ }
 {
-    let n = table.len() / 16;
+    let n = table.len() / problem::ARC_BYTES;
     let mut entries = start(terminal as usize);
-    let mut risks = [0; arcs::NODES];
+    let nothing = exposure::nothing();
+    let mut exposures = [nothing; problem::NODES];
     let mut k: usize = 0;
     let mut left = n;
     while left > 0 {
@@ -142,13 +145,14 @@ pub fn side_table(table: &[u8], terminal: u8, banned: u64) -> Side
         let head = a.head as usize;
         if gains(a, banned, entries[tail], entries[head]) {
             entries = relax_in(entries, tail, head, a.metres);
-            let on = risks[head];
-            risks[tail] = a.risks | on;
+            let own = exposure::of_arc(a);
+            let on = exposures[head];
+            exposures[tail] = exposure::joined(own, on);
             left = n;
         }
     }
     Side {
         entries: entries,
-        risks: risks,
+        exposures: exposures,
     }
 }

@@ -1,2 +1,3 @@
 pub mod DoorLaws
+pub mod HopLaws
 pub mod StandbyLaws

@@ -5,7 +5,9 @@ use mathlib.Core.List.{List}
 use mathlib.Core.Path.{_≡_}
 use lib.Dec.{ltb}
 use lib.ListN.{length}
-use Rattle.net.specs.Net.{terminalAt, reachAt, sourceAt, wordAt, arcsIn}
+use Rattle.problem.specs.Routes.{Mesh}
+use Rattle.net.specs.declared.Behind.{Behind}
+use Rattle.net.specs.Net.{wordAt}
 use Rattle.sweep.specs.declared.Swept.{Swept}
 use Rattle.sweep.specs.declared.Window.{Window}
 use Rattle.sweep.specs.Sweep.{ended, Sweeps}
@@ -64,14 +66,13 @@ pub record Cuts (to : ℕ) (before after : List ℕ) : Type 0 where
   pub tally-same : sweptIn after .tally ≡ sweptIn before .tally
   pub cut-is : wordAt after cutAt ≡ min (wordAt before cutAt) to
 
--- a route of so many metres and these risks ended, no longer than the window's end
-pub record Meets (net : List ℕ) (metres risks : ℕ) (before after : List ℕ) : Type 0 where
+-- a route ended, no longer than the window's end
+pub record Meets (m : Mesh) (route : Behind) (before after : List ℕ) : Type 0 where
   pub kept : Kept before after
-  pub tally-is : sweptIn after .tally
-      ≡ ended (arcsIn net) (wordAt net sourceAt) (wordAt net terminalAt) (wordAt net reachAt) (windowIn before) metres risks (sweptIn before .tally)
+  pub tally-is : sweptIn after .tally ≡ ended m (windowIn before) route (sweptIn before .tally)
   pub cut-same : wordAt after cutAt ≡ wordAt before cutAt
 
 -- all that grows from a node was swept
-pub record Walks (net : List ℕ) (at met metres risks : ℕ) (before after : List ℕ) : Type 0 where
+pub record Walks (net : List ℕ) (at : ℕ) (b : Behind) (before after : List ℕ) : Type 0 where
   pub kept : Kept before after
-  pub sweeps : Sweeps net (windowIn before) at met metres risks (sweptIn before) (sweptIn after)
+  pub sweeps : Sweeps net (windowIn before) at b (sweptIn before) (sweptIn after)

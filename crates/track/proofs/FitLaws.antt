@@ -5,10 +5,11 @@ use mathlib.Core.Path.{_≡_, sym, ap, _∙_}
 use native.Mathlib.Decide.{decLt}
 use native.Mathlib.Numerals.{add-one}
 use native.Mathlib.Omega.{arith}
-use lib.Bits.{bitOr}
 use lib.ListN.{length, getD, take, drop, set, replicate, length-set, take-append-drop}
 use lib.Seq.{length-take-le, take-suc-set, drop-set-lt, drop-drop, getD-set-same, getD-set-other}
-use Rattle.problem.specs.declared.Arc.{Arc}
+use Rattle.problem.specs.Table.{mostArcs, mostInTable}
+use Rattle.problem.specs.declared.Exposure.{Exposure}
+use Rattle.problem.specs.Exposures.{joined}
 use Rattle.problem.specs.Reply.{placesOf}
 use Rattle.track.specs.declared.Track.{Track}
 use Rattle.track.specs.Track.{routeIn, Fit, Holds, onward}
@@ -24,15 +25,15 @@ module _ (t : Track) (fit : Fit t) where
       sym (take-append-drop (t .count) (t .arcs))
       ∙ ap (λ l. take (t .count) (t .arcs) ++ l) (fit .blank ∙ ap (λ (n : ℕ). replicate (32 - n) 255) (sym fit-count))
 
-  -- arc number k, which is a, put at the end
-  module _ (k : ℕ) (a : Arc) (room : t .count < 31) (small : k < 128) where
+  -- one arc more put at the end
+  module _ (k metres : ℕ) (e all : Exposure) (room : t .count < mostArcs) (small : k < mostInTable) (both : all ≡ joined (t .exposure) e) where
     abbrev longer : Track
-    longer = record { arcs = set (t .arcs) (t .count) k; count = t .count + 1; metres = t .metres + a .metres; risks = bitOr (t .risks) (a .risks) }
+    longer = record { arcs = set (t .arcs) (t .count) k; count = t .count + 1; metres = t .metres + metres; exposure = all }
 
     within : t .count < length (t .arcs)
     within = omega (arith, fit .size)
 
-    longer-small : (i : ℕ) → i < t .count + 1 → getD (set (t .arcs) (t .count) k) i 0 < 128
+    longer-small : (i : ℕ) → i < t .count + 1 → getD (set (t .arcs) (t .count) k) i 0 < mostInTable
     longer-small i h =
         elim (decLt i (t .count)) [
           | yes l ↦ rw (getD-set-other (t .arcs) (t .count) i k 0 (λ e. omega arith)) (fit .small i l)
@@ -46,7 +47,7 @@ module _ (t : Track) (fit : Fit t) where
         ∙ sym (drop-drop 1 (t .count) (t .arcs))
         ∙ ap (drop 1) (fit .blank ∙ ap (λ (n : ℕ). replicate n 255) e)
 
-    pub fit-onward : Holds longer (onward (routeIn t) k a)
+    pub fit-onward : Holds longer (onward (routeIn t) k metres e)
     unfolding routeIn onward
     fit-onward = record {
       fit = record {
@@ -55,5 +56,5 @@ module _ (t : Track) (fit : Fit t) where
         small = longer-small;
         blank = longer-blank;
       };
-      route = rw (add-one, take-suc-set (t .arcs) (t .count) k within);
+      route = rw (add-one, take-suc-set (t .arcs) (t .count) k within, both);
     }

@@ -7,7 +7,7 @@ use lib.ListN.{length}
 use Rattle.problem.specs.declared.Arc.{Arc}
 use Rattle.problem.specs.Table.{lastNode, arcsOf}
 use Rattle.problem.proofs.TableLaws.{arcs-length}
-use Rattle.chain.specs.Chain.{mostInTable}
+use Rattle.problem.specs.Table.{mostInTable}
 use Rattle.chain.proofs.BuiltLaws.{Built, built-none, built-more, built-all}
 use Rattle.chain.proofs.chained.Statement.{statement}
 use Rattle.chain.proofs.chained.Tie as tie
@@ -18,7 +18,7 @@ Inv-loop table n chain₀ i₀ chain i = (i ≤ n) × (n ≡ length (arcsOf tabl
 abbrev μ-loop : tie.MeasureT-loop
 μ-loop table n chain₀ i₀ chain i = i
 
--- the arc that was read has a number below 128
+-- the arc that was read has a number below `mostInTable`
 low : (c : tie.After-arc-at Inv-loop μ-loop) → c .before .before .loop .i ≤ mostInTable
 low c = omega (arith, c .before .before .loop .inv .1, c .before .before .before .before .pre .few)
 

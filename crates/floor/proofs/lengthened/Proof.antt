@@ -3,12 +3,12 @@ use mathlib.Core.Path.{_≡_, ap}
 use mathlib.Core.Bool.{Bool}
 use Prim.Native.Nat.{ℕ}
 use native.Mathlib.Omega.{arith}
-use Rattle.side.specs.declared.Entry.{Entry}
+use Rattle.side.specs.declared.Distance.{Distance}
 use Rattle.floor.proofs.lengthened.Statement.{statement}
 use Rattle.floor.proofs.lengthened.Tie as tie
 
 -- an entry with the given length is known by that length
-of-length : (reached : Bool) {m n : ℕ} → m ≡ n → _≡_ {A = Entry} (record { metres = m; reached = reached }) (record { metres = n; reached = reached })
+of-length : (reached : Bool) {m n : ℕ} → m ≡ n → _≡_ {A = Distance} (record { metres = m; reached = reached }) (record { metres = n; reached = reached })
 of-length reached e = ap (λ (m : ℕ). record { metres = m; reached = reached }) e
 
 kept : tie.Need-returns

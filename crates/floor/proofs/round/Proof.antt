@@ -1,14 +1,19 @@
 -- `floor::round` meets its contract. The invariant: what a round leaves that has gone over the arcs below k; the measure: the arcs that are left.
 -- Assumes nothing.
-use mathlib.Core.Path.{_≡_}
+use mathlib.Core.Path.{_≡_, sym, ap, _∙_}
+use mathlib.Core.Bool.{true}
 use Prim.Native.Nat.{_≤_, _-_}
 use lib.ListN.{length}
 use native.Mathlib.Omega.{arith}
 use borrow.Author.Needs.{needs}
+use borrow.Author.Tests.{not-false}
+use Rattle.problem.specs.declared.Exposure.{Exposure}
 use Rattle.problem.specs.Table.{arcsOf, SoundArc}
+use Rattle.problem.specs.Exposures.{toNothing, joined, common}
 use Rattle.problem.proofs.TableLaws.{arcs-length, arcs-inside, sound-at}
+use Rattle.side.specs.Side.{exposureAt}
 use Rattle.floor.specs.Clearing.{Rounded}
-use Rattle.floor.proofs.ClearLaws.{clearedBy, rounded-start, rounded-idle, rounded-unreached, rounded-cut, rounded-clears}
+use Rattle.floor.proofs.ClearLaws.{exposureOver, clearedBy, rounded-start, rounded-idle, rounded-unreached, rounded-cut, rounded-clears}
 use Rattle.floor.proofs.round.Statement.{statement}
 use Rattle.floor.proofs.round.Tie as tie
 
@@ -22,8 +27,8 @@ loop-holds : tie.Need-loop-holds Inv-loop μ-loop
 loop-holds c = (omega arith, rounded-start _ _ _)
 
 -- the arc of this turn
-abbrev arc : tie.After-struct-known3 Inv-loop μ-loop → tie.After-arc-at Inv-loop μ-loop
-arc c = c .before .before .before .before .before
+abbrev arc : tie.After-is-same Inv-loop μ-loop → tie.After-arc-at Inv-loop μ-loop
+arc c = c .before .before .before .before .before .before .before .before
 
 sound : (c : tie.After-arc-at Inv-loop μ-loop) → SoundArc (c .arc-at .result)
 sound c =
@@ -31,11 +36,21 @@ sound c =
     let start = l .before .before in
     rw (c .arc-at .ensures) (sound-at _ (start .pre) (l .loop .k) (arcs-inside (start .args .table .now) (l .loop .k) (omega arith)))
 
+-- what its tail is left with
+over : (c : tie.After-is-same Inv-loop μ-loop) → c .before .common .result ≡ exposureOver (arc c .before .before .loop .s) (arc c .arc-at .result)
+unfolding toNothing
+over c =
+    let s = arc c .before .before .loop .s in
+    let a = arc c .arc-at .result in
+    let made = c .before in
+    made .common .ensures
+    ∙ ap (common (exposureAt s (a .tail))) (made .before .joined .ensures ∙ ap (λ (e : Exposure). joined e (exposureAt s (a .head))) (made .before .before .before .of-arc .ensures))
+
 old : tie.Need-element-copy-out-old Inv-loop μ-loop
 old c = omega (arith, sound (c .before .before) .tail-node)
 
-new : tie.Need-element-copy-out-new Inv-loop μ-loop
-new c = omega (arith, sound (c .before .before .before) .head-node)
+next : tie.Need-element-copy-out-on Inv-loop μ-loop
+next c = omega (arith, sound (c .before .before .before .before) .head-node)
 
 from : tie.Need-element-copy-out-from Inv-loop μ-loop
 from c = omega (arith, sound (arc (c .before)) .tail-node)
@@ -46,18 +61,19 @@ to c = omega (arith, sound (arc (c .before .before)) .head-node)
 write-entry : tie.Need-element-set-from-s Inv-loop μ-loop
 write-entry c = omega (arith, sound (arc (c .before .before .before .before .before .before .before)) .tail-node)
 
-write-risks : tie.Need-element-write-s Inv-loop μ-loop
-write-risks c = omega (arith, sound (arc (c .before .before .before .before .before .before .before)) .tail-node)
+write-exposure : tie.Need-element-set-from-new Inv-loop μ-loop
+write-exposure c = omega (arith, sound (arc (c .before .before .before .before .before .before .before)) .tail-node)
 
 cleared : tie.Need-loop-again Inv-loop μ-loop
 unfolding clearedBy
 cleared c =
-    let over = c .before in
-    let a = arc (over .before .before .before .before .before .before) in
+    let short = c .before in
+    let asked = short .before .before .before .before .before .before in
+    let a = arc asked in
     let l = a .before .before in (
       omega arith,
-      rw (c .lengthened .ensures) (rounded-clears _ _ _ (l .loop .k) _ _ _ _ (a .arc-at .ensures) (l .loop .inv .1) (arcs-inside (l .before .before .args .table .now) (l .loop .k) (omega arith)) (sound a)
-          (over .before .before .if2 .taken) (omega (arith, over .if3 .taken, over .before .sum .ensures)) _ (omega (arith, over .before .sum .ensures))),
+      rw (c .lengthened .ensures, over asked) (rounded-clears _ _ _ (l .loop .k) _ _ _ _ (a .arc-at .ensures) (l .loop .inv .1) (arcs-inside (l .before .before .args .table .now) (l .loop .k) (omega arith)) (sound a)
+          (short .before .before .if2 .taken) (omega (arith, short .if3 .taken, short .before .sum .ensures)) _ (omega (arith, short .before .sum .ensures))),
     )
 
 cut : tie.Need-loop-again-2 Inv-loop μ-loop
@@ -72,11 +88,15 @@ unreached c =
     let l = a .before .before in
     (omega arith, rounded-unreached _ _ _ (l .loop .k) _ _ _ _ (a .arc-at .ensures) (l .loop .inv .1) (c .if2 .left))
 
+same : (c : tie.After-is-same Inv-loop μ-loop) → c .is-same .result ≡ true → exposureOver (arc c .before .before .loop .s) (arc c .arc-at .result) ≡ exposureAt (arc c .before .before .loop .s) (arc c .arc-at .result .tail)
+unfolding toNothing
+same c e = sym (over c) ∙ c .is-same .ensures .0 e
+
 idle : tie.Need-loop-again-4 Inv-loop μ-loop
 idle c =
     let a = arc (c .before) in
     let l = a .before .before in
-    (omega arith, rounded-idle _ _ _ (l .loop .k) _ _ _ _ (a .arc-at .ensures) (l .loop .inv .1) (c .if1 .left))
+    (omega arith, rounded-idle _ _ _ (l .loop .k) _ _ _ _ (a .arc-at .ensures) (l .loop .inv .1) (same (c .before) (not-false _ (c .if1 .left))))
 
 returns : tie.Need-returns Inv-loop μ-loop
 returns c =
@@ -97,8 +117,12 @@ round-spec =
     (λ c. omega arith)
     (λ c. omega arith)
     old
+    (λ c κs. search needs)
     (λ c. omega arith)
-    new
+    next
+    (λ c κs. search needs)
+    (λ c κs. search needs)
+    (λ c κs. search needs)
     (λ c. omega arith)
     from
     (λ c. omega arith)
@@ -109,7 +133,7 @@ round-spec =
     (λ c. omega arith)
     write-entry
     (λ c. omega arith)
-    write-risks
+    write-exposure
     (λ c. omega arith)
     cleared
     (λ c. omega arith)

@@ -1,4 +1,5 @@
 -- `keys::pair_of` meets its contract: the definition, computed. Assumes nothing.
+use Rattle.keys.proofs.BoundLaws.{standby-parts}
 use Rattle.keys.specs.Keys.{pairKey, pairOf}
 use borrow.Author.Needs.{needs}
 use Rattle.keys.proofs.pair_of.Statement.{statement}
@@ -14,10 +15,10 @@ add-result : tie.Need-add-result
 add-result c = search needs
 
 mul-result-2 : tie.Need-mul-result-2
-mul-result-2 c = search needs
+mul-result-2 c = search (needs, standby-parts (c .pre .1))
 
 add-result-2 : tie.Need-add-result-2
-add-result-2 c = search needs
+add-result-2 c = search (needs, standby-parts (c .pre .1))
 
 returns : tie.Need-returns
 unfolding pairOf pairKey

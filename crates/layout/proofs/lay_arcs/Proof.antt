@@ -30,13 +30,13 @@ next-requires c κs = (omega arith, omega arith)
 
 spread-requires : tie.Need-spread-requires Inv-loop μ-loop
 spread-requires c κs =
-    let l = c .before .before .before .before .before .before .before .before in
+    let l = c .before .before .before .before .before .before .before .before .before in
     (omega arith, λ j h. omega (arith, l .loop .inv .1 .size))
 
 loop-again : tie.Need-loop-again Inv-loop μ-loop
 loop-again c =
     let put = c .before .before in
-    let next = put .before .before .before .before .before .before in
+    let next = put .before .before .before .before .before .before .before in
     let arc = next .before in
     let l = arc .before .before in
     (omega arith, columns-more (omega arith) (sym (zero-add (l .loop .k))) (ap₂ arcWords (arc .arc-at .ensures) (next .next .ensures)) (l .loop .inv .1) (put .spread .ensures))
@@ -60,6 +60,9 @@ lay-arcs-spec =
     loop-holds
     arc-at-requires
     next-requires
+    (λ c. omega arith)
+    (λ c. omega arith)
+    (λ c. omega arith)
     (λ c. omega arith)
     (λ c. omega arith)
     (λ c. omega arith)

@@ -3,9 +3,12 @@
 use Prim.Native.Nat.{_-_, _≤_}
 use mathlib.Core.Path.{_≡_, ap, _∙_}
 use native.Mathlib.Omega.{arith}
+use borrow.Author.Needs.{needs}
 use lib.ListN.{length}
 use Rattle.problem.specs.declared.Arc.{Arc}
+use Rattle.problem.specs.declared.Exposure.{Exposure}
 use Rattle.problem.specs.Table.{arcsOf}
+use Rattle.problem.specs.Exposures.{ofArc}
 use Rattle.problem.proofs.TableLaws.{arcs-length}
 use Rattle.layout.specs.Layout.{Doors}
 use Rattle.layout.proofs.LayoutLaws.{doors-none, doors-past, doors-more}
@@ -13,26 +16,33 @@ use Rattle.layout.proofs.lay_doors.Statement.{statement}
 use Rattle.layout.proofs.lay_doors.Tie as tie
 
 abbrev Inv-loop : tie.InvT-loop
-Inv-loop net₀ table terminal arc-count count₀ k₀ net count k = (k ≤ arc-count) × Doors k (arcsOf table) terminal count net₀ net
+Inv-loop net₀ table q arc-count count₀ k₀ net count k = (k ≤ arc-count) × Doors k (arcsOf table) (q .terminal) count net₀ net
 
 abbrev μ-loop : tie.MeasureT-loop
-μ-loop net₀ table terminal arc-count count₀ k₀ net count k = arc-count - k
+μ-loop net₀ table q arc-count count₀ k₀ net count k = arc-count - k
 
 loop-holds : tie.Need-loop-holds Inv-loop μ-loop
 loop-holds c = (omega arith, doors-none _ _ _)
 
+-- where a door is found: the turn's arc, and its beginning
+abbrev arc-of : tie.After-risks Inv-loop μ-loop → tie.After-arc-at Inv-loop μ-loop
+arc-of c = c .before .before .before .before .before
+
+abbrev turn-of : tie.After-risks Inv-loop μ-loop → tie.At-loop Inv-loop μ-loop
+turn-of c = arc-of c .before .before
+
 slice-write-net : tie.Need-slice-write-net Inv-loop μ-loop
-slice-write-net c = let l = c .before .before .before .before in omega (arith, l .loop .inv .1 .size, l .loop .inv .1 .few)
+slice-write-net c = let l = turn-of c in omega (arith, l .loop .inv .1 .size, l .loop .inv .1 .few)
 
 loop-again : tie.Need-loop-again Inv-loop μ-loop
 loop-again c =
-    let a = c .before .before in
-    let l = a .before .before in
-    (omega arith, doors-more (l .loop .inv .1) (ap (λ (x : Arc). x .risks) (a .arc-at .ensures)) (omega (arith, l .loop .inv .1 .few)))
+    let l = turn-of c in
+    let e = c .before .of-arc .ensures ∙ ap ofArc (arc-of c .arc-at .ensures) in
+    (omega arith, doors-more (l .loop .inv .1) (c .risks .ensures ∙ ap (λ (x : Exposure). x .risks) e) (omega (arith, l .loop .inv .1 .few)))
 
 loop-again-2 : tie.Need-loop-again-2 Inv-loop μ-loop
 loop-again-2 c =
-    let a = c .before .before in
+    let a = c .before .before .before in
     (omega arith, doors-past (a .before .before .loop .inv .1) (λ e. c .if1 .left (ap (λ (x : Arc). x .head) (a .arc-at .ensures) ∙ e)))
 
 same-length : tie.Need-same-length Inv-loop μ-loop
@@ -54,10 +64,13 @@ lay-doors-spec =
     loop-holds
     (λ c κs. omega arith)
     (λ c. omega arith)
-    (λ c. omega (arith, c .before .before .before .before .loop .inv .1 .few))
-    (λ c. omega (arith, c .before .before .before .before .loop .inv .1 .few))
+    (λ c. omega arith)
+    (λ c κs. search needs)
+    (λ c κs. search needs)
+    (λ c. omega (arith, turn-of c .loop .inv .1 .few))
+    (λ c. omega (arith, turn-of c .loop .inv .1 .few))
     slice-write-net
-    (λ c. omega (arith, c .before .before .before .before .loop .inv .1 .few))
+    (λ c. omega (arith, turn-of c .loop .inv .1 .few))
     (λ c. omega arith)
     loop-again
     (λ c. omega arith)

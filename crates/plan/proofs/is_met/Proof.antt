@@ -7,14 +7,14 @@ use Rattle.plan.proofs.is_met.Tie as tie
 
 returns : tie.Need-returns
 unfolding metBy
-returns c = rw (ne-eqb _ _ (c .if1 .taken))
+returns c = rw (← c .before .shared-of .ensures .0, ne-eqb _ _ (c .if1 .taken))
 
 mul-result : tie.Need-mul-result
 mul-result c = search needs
 
 returns-2 : tie.Need-returns-2
 unfolding metBy
-returns-2 c = rw (eq-eqb _ _ (c .before .if1 .left))
+returns-2 c = rw (← c .before .before .before .shared-of .ensures .0, eq-eqb _ _ (c .before .before .if1 .left), ← c .before .total-of .ensures .0)
 
 pub is-met-spec : {M : Type 1} → statement M
-is-met-spec = tie.close (tie.spec returns mul-result returns-2)
+is-met-spec = tie.close (tie.spec (λ c κs. search needs) returns (λ c κs. search needs) mul-result returns-2)

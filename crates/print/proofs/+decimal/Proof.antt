@@ -1,12 +1,12 @@
 -- `print::decimal` meets its contract. The measure: the number itself, since a tenth of it is less. All digits but the last are those
 -- of the tenth (`digits-last`). Assumes nothing.
-use Prim.Native.Nat.{ℕ, _+_, _/_, _^_, _<_}
+use Prim.Native.Nat.{ℕ, _/_, _^_, _<_}
 use native.Mathlib.Omega.{arith}
 use borrow.Author.Needs.{needs}
 use borrow.Fn.Kinds.{In}
 use borrow.Fn.PlainCycle.{Measures, is, falls, and}
-use Rattle.buffer.proofs.PutLaws.{puts-then}
-use Rattle.buffer.proofs.put.Reads as put-reads
+use Rattle.octets.proofs.PutLaws.{puts-then}
+use Rattle.octets.proofs.put.Reads as put-reads
 use Rattle.print.proofs.DigitLaws.{digits-one, digits-last, digits-length}
 use Rattle.print.proofs.decimal.Reads as decimal
 use Rattle.print.proofs.decimal.Kinds as decimal-kinds

@@ -2,7 +2,7 @@
 use Prim.Native.Nat.{_^_, _<_}
 use native.Mathlib.Omega.{arith}
 use Rattle.problem.specs.Printed.{text}
-use Rattle.buffer.proofs.PutLaws.{puts-then}
+use Rattle.octets.proofs.PutLaws.{puts-then}
 use borrow.Author.Needs.{needs}
 use Rattle.print.proofs.DigitLaws.{digits-length}
 use Rattle.print.proofs.field.Statement.{statement}

@@ -1,7 +1,7 @@
 -- `print::line` meets its contract: the word, the first number, the others and the line feed. Assumes nothing.
 use native.Mathlib.Omega.{arith}
 use Rattle.problem.specs.Printed.{fields}
-use Rattle.buffer.proofs.PutLaws.{puts-then}
+use Rattle.octets.proofs.PutLaws.{puts-then}
 use borrow.Author.Needs.{needs}
 use Rattle.print.proofs.line.Statement.{statement}
 use Rattle.print.proofs.line.Tie as tie

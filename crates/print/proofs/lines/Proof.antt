@@ -18,8 +18,8 @@ part-requires c κs = search needs
 slice-aggregate-line : tie.Need-slice-aggregate-line
 slice-aggregate-line c = search needs
 
-number-at-requires : tie.Need-number-at-requires
-number-at-requires c κs = search needs
+number4-requires : tie.Need-number4-requires
+number4-requires c κs = search needs
 
 kilometres-requires : tie.Need-kilometres-requires
 kilometres-requires c κs = search needs
@@ -36,8 +36,8 @@ part-requires-2 c κs = search needs
 slice-aggregate-line-2 : tie.Need-slice-aggregate-line-2
 slice-aggregate-line-2 c = search needs
 
-number-at-requires-2 : tie.Need-number-at-requires-2
-number-at-requires-2 c κs = search needs
+number4-requires-2 : tie.Need-number4-requires-2
+number4-requires-2 c κs = search needs
 
 kilometres-requires-2 : tie.Need-kilometres-requires-2
 kilometres-requires-2 c κs = search needs
@@ -56,8 +56,8 @@ returns c =
     let v = l1 .before .before .before .before .before .before .before .before .before in
     let reply = v .before .before .before .before .args .reply .now in
     lines-put reply
-    (route-fields reply 12 3 32 (l1 .before .kilometres .ensures) (l1 .before .before .number-at .ensures) (l1 .before .before .before .before .before .part .ensures .0))
-    (route-fields reply 16 4 64 (l2 .before .kilometres2 .ensures) (l2 .before .before .number-at2 .ensures) (l2 .before .before .before .before .before .part2 .ensures .0))
+    (route-fields reply 12 3 32 (l1 .before .kilometres .ensures) (l1 .before .before .number4 .ensures) (l1 .before .before .before .before .before .part .ensures .0))
+    (route-fields reply 16 4 64 (l2 .before .kilometres2 .ensures) (l2 .before .before .number42 .ensures) (l2 .before .before .before .before .before .part2 .ensures .0))
     (v .verdict-line .ensures .0) (l1 .line .ensures .0) (l2 .line2 .ensures .0)
 
 pub lines-spec : {M : Type 1} → statement M
@@ -68,13 +68,13 @@ lines-spec =
     shared-slice-read-part
     part-requires
     slice-aggregate-line
-    number-at-requires
+    number4-requires
     kilometres-requires
     line-requires
     shared-slice-read-part-2
     part-requires-2
     slice-aggregate-line-2
-    number-at-requires-2
+    number4-requires-2
     kilometres-requires-2
     line-requires-2
     same-length

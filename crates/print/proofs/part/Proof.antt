@@ -3,7 +3,7 @@ use Prim.Native.Nat.{_+_, _-_}
 use mathlib.Core.Path.{_≡_}
 use native.Mathlib.Omega.{arith}
 use lib.ListN.{length}
-use Rattle.print.proofs.ReadLaws.{part-rest, part-length}
+use Rattle.print.proofs.PartLaws.{part-rest, part-length}
 use borrow.Author.Needs.{needs}
 use Rattle.print.proofs.part.Statement.{statement}
 use Rattle.print.proofs.part.Tie as tie

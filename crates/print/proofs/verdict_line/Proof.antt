@@ -30,8 +30,8 @@ wide-requires-2 c κs = search needs
 field-requires-2 : tie.Need-field-requires-2
 field-requires-2 c κs = omega arith
 
-number-at-requires : tie.Need-number-at-requires
-number-at-requires c κs = search needs
+number4-requires : tie.Need-number4-requires
+number4-requires c κs = search needs
 
 field-requires-3 : tie.Need-field-requires-3
 field-requires-3 c κs = omega arith
@@ -51,7 +51,7 @@ returns c =
     let f1 = f2 .before .before .before .before .before .before in
     let w = f1 .before .before .before .before .before .before in
     let reply = w .before .before .before .before .before .args .reply .now in (
-      verdict-put reply (f1 .before .wide .ensures) (f2 .before .wide2 .ensures) (f3 .before .number-at .ensures) (omega (arith, w)) (omega (arith, f1)) (omega (arith, f2))
+      verdict-put reply (f1 .before .wide .ensures) (f2 .before .wide2 .ensures) (f3 .before .number4 .ensures) (omega (arith, w)) (omega (arith, f1)) (omega (arith, f2))
           (w .verdict-word .ensures .0) (f1 .field .ensures .0) (f2 .field2 .ensures .0) (f3 .field3 .ensures .0) (p .put .ensures),
       omega arith,
     )
@@ -68,7 +68,7 @@ verdict-line-spec =
     shared-slice-read-wide-2
     wide-requires-2
     field-requires-2
-    number-at-requires
+    number4-requires
     field-requires-3
     put-requires
     same-length

@@ -11,37 +11,29 @@ use Rattle.routes.proofs.is_faulty.Tie as tie
 returns : tie.Need-returns
 returns c = sym (faulty-short _ (c .if1 .taken))
 
-shared-slice-read-number2 : tie.Need-shared-slice-read-number2
-shared-slice-read-number2 c = search needs
-
-shared-slice-read-number2-2 : tie.Need-shared-slice-read-number2-2
-shared-slice-read-number2-2 c = search needs
-
 number2-requires : tie.Need-number2-requires
 number2-requires c κs = search needs
 
 returns-2 : tie.Need-returns-2
 returns-2 c =
     let n = c .before in
-    sym (faulty-low _ (n .before .before .before .if1 .left) (λ e. c .if2 .taken (n .number2 .ensures ∙ e)))
+    sym (faulty-low _ (n .before .if1 .left) (λ e. c .if2 .taken (n .number2 .ensures ∙ e)))
 
-number-at-requires : tie.Need-number-at-requires
-number-at-requires c κs = search needs
+number4-requires : tie.Need-number4-requires
+number4-requires c κs = search needs
 
 returns-3 : tie.Need-returns-3
 returns-3 c =
     let t = c .before in
     let n = t .before in
-    ap (λ (x : ℕ). not (eqb x 0)) (c .number-at .ensures) ∙ sym (faulty-high _ (n .before .before .before .if1 .left) (sym (n .number2 .ensures) ∙ t .if2 .left))
+    ap (λ (x : ℕ). not (eqb x 0)) (c .number4 .ensures) ∙ sym (faulty-high _ (n .before .if1 .left) (sym (n .number2 .ensures) ∙ t .if2 .left))
 
 pub is-faulty-spec : {M : Type 1} → statement M
 is-faulty-spec =
     tie.close
     (tie.spec
     returns
-    shared-slice-read-number2
-    shared-slice-read-number2-2
     number2-requires
     returns-2
-    number-at-requires
+    number4-requires
     returns-3)

@@ -20,11 +20,11 @@ shared-slice-read-wide-2 c = search needs
 wide-requires-2 : tie.Need-wide-requires-2
 wide-requires-2 c κs = search needs
 
-number-at-requires : tie.Need-number-at-requires
-number-at-requires c κs = search needs
+number4-requires : tie.Need-number4-requires
+number4-requires c κs = search needs
 
-number-at-requires-2 : tie.Need-number-at-requires-2
-number-at-requires-2 c κs = search needs
+number4-requires-2 : tie.Need-number4-requires-2
+number4-requires-2 c κs = search needs
 
 sub-feshangul-plan : tie.Need-sub-feshangul-plan
 sub-feshangul-plan c = search needs
@@ -49,7 +49,7 @@ returns c =
     let u = a .before in
     let t = u .before .before in
     let s = t .before .before .before .before in
-    asked-by (s .args .input .now) _ (s .args .reply .now) _ _ _ _ (take-all (length (s .args .input .now) - 16) (drop 16 (s .args .input .now)) (rw length-drop (omega arith))) (t .wide .ensures) (u .wide2 .ensures) (a .number-at .ensures) (b .number-at2 .ensures) (f .feshangul-plan .ensures)
+    asked-by (s .args .input .now) _ (s .args .reply .now) _ _ _ _ (take-all (length (s .args .input .now) - 16) (drop 16 (s .args .input .now)) (rw length-drop (omega arith))) (t .wide .ensures) (u .wide2 .ensures) (a .number4 .ensures) (b .number42 .ensures) (f .feshangul-plan .ensures)
 
 pub plan-spec : {M : Type 1} → statement M
 plan-spec =
@@ -59,8 +59,8 @@ plan-spec =
     wide-requires
     shared-slice-read-wide-2
     wide-requires-2
-    number-at-requires
-    number-at-requires-2
+    number4-requires
+    number4-requires-2
     sub-feshangul-plan
     part-feshangul-plan-start
     part-feshangul-plan-end

@@ -43,11 +43,11 @@ use denote.Triple.Table.{entered, cited}
 use denote.Triple.Walked.{says, needs, Stays, stay-slice, stay-none, walkOf, goes-slice, goes-none, Walks, ends-at, walked, walk-meets}
 use denote.Exit.{yes}
 use borrow.Author.Needs.{scaled-fits}
-use Rattle.side.specs.declared.Entry.{Entry}
+use Rattle.side.specs.declared.Distance.{Distance}
 use Rattle.side.specs.Side.{unreached}
 use Rattle.side.specs.Relaxing.{nearerOf, relaxedIn, Fits}
-use Rattle.side.proofs.Entry as entry
-use Rattle.side.proofs.Entry.Laws as entry-laws
+use Rattle.side.proofs.Distance as distance
+use Rattle.side.proofs.Distance.Laws as distance-laws
 use Rattle.side.proofs.nearer as nearer
 use Rattle.side.proofs.nearer.Symbol as nearer-symbol
 use Rattle.side.proofs.nearer.Symbol.{name as #nearer}
@@ -60,19 +60,19 @@ use Rattle.side.proofs.relax.Code as code
 -- ---- an entry in memory: 8 bytes
 
 abbrev R : RattleType
-R = entry.the-row
+R = distance.the-row
 
 abbrev size : ℕ
 size = 8
 
-abbrev machine : Entry → Val
-machine e = structs.val entry.the-type entry-laws.the-laws e
+abbrev machine : Distance → Val
+machine e = structs.val distance.the-type distance-laws.the-laws e
 
-abbrev values : Entry → List Val
-values = structs.vals entry.the-type entry-laws.the-laws
+abbrev values : Distance → List Val
+values = structs.vals distance.the-type distance-laws.the-laws
 
 tells : Tells R (Is R) values
-tells = structs.tells entry.the-type entry-laws.the-laws
+tells = structs.tells distance.the-type distance-laws.the-laws
 
 abbrev stayed : Stays (relax.ended .signature .params) (relax.ended .kept)
 stayed = (stay-slice (0 ∷ []) tt (plain (λ _. R)), (stay-none (λ _. usize) yes, (stay-none (λ _. usize) yes, (stay-none (λ _. u32) yes, tt))))
@@ -82,33 +82,33 @@ module _ {M : Type 1} (𝓤 : URA M) (H : Heap 𝓤) (A : Atoms 𝓤) (mem : Mem
   Nearer = tripleOf 𝓤 H A nearer.signature (nearer.spec 𝓤 H A mem run)
 
   -- of what `nearer` ensures, the clause alone
-  nearer-ensures : (t h : Entry) (m : ℕ) (e : Entry) → ent 𝓤 (ensured 𝓤 H A nearer.ended (nearer.clauses 𝓤 H A mem run) tt (t, (h, (m, tt))) tt e) (fact 𝓤 (e ≡ nearerOf t h m))
+  nearer-ensures : (t h : Distance) (m : ℕ) (e : Distance) → ent 𝓤 (ensured 𝓤 H A nearer.ended (nearer.clauses 𝓤 H A mem run) tt (t, (h, (m, tt))) tt e) (fact 𝓤 (e ≡ nearerOf t h m))
   nearer-ensures t h m e = exE 𝓤 _ (λ ws. snd∗ 𝓤 (sem 𝓤 H A (lasts nearer.ended tt (t, (h, (m, tt))) ws)) (fact 𝓤 (e ≡ nearerOf t h m)))
 
 module _ {M : Type 1} (𝓤 : URA M) (H : Heap 𝓤) (A : Atoms 𝓤) (W : Given 𝓤 H A) (mem : Memory → SProp 𝓤) (run : Routine → Fun 𝓤)
-    (κ : Lft) (q : Share) (b o : ℕ) (γ : GName) (entries : List Entry) (tail head metres : ℕ) where
+    (κ : Lft) (q : Share) (b o : ℕ) (γ : GName) (entries : List Distance) (tail head metres : ℕ) where
   -- the arguments, and the values that stand for them
-  abbrev args : RefT (List Entry) × (ℕ × (ℕ × (ℕ × Unit {0})))
+  abbrev args : RefT (List Distance) × (ℕ × (ℕ × (ℕ × Unit {0})))
   args = (record { ptr = (b, o); name = γ; now = entries }, (tail, (head, (metres, tt))))
 
   abbrev vals : List Val × (List Val × (List Val × (List Val × Unit {0})))
   vals = (sliceVal (b, o) (length entries) ∷ [], (vint w64 tail ∷ [], (vint w64 head ∷ [], (vint w32 metres ∷ [], tt))))
 
-  abbrev entryAt : ℕ → Entry
+  abbrev entryAt : ℕ → Distance
   entryAt v = getD entries v unreached
 
   abbrev numbers : Fml
   numbers = fsep (usize .own tail (vint w64 tail ∷ [])) (fsep (usize .own head (vint w64 head ∷ [])) (fsep (u32 .own metres (vint w32 metres ∷ [])) ftrue))
 
-  abbrev typed : (e : Entry) (vs : List Val) → Is R e vs → Typed (R .mir) vs
-  typed = structs.lawful entry.the-type entry-laws.the-laws 𝓤 H A W .typed
+  abbrev typed : (e : Distance) (vs : List Val) → Is R e vs → Typed (R .mir) vs
+  typed = structs.lawful distance.the-type distance-laws.the-laws 𝓤 H A W .typed
 
   -- ---- the end: the borrow is closed at the list with e at the tail
 
   abbrev Post : Val → SProp 𝓤
   Post = walkOf 𝓤 H A relax.ended stayed (relax.clauses 𝓤 H A mem run) .post (((κ, tt), (q, tt), tt, args, vals), tt)
 
-  exits : (e : Entry) → Room R (length entries) → e ≡ nearerOf (entryAt tail) (entryAt head) metres
+  exits : (e : Distance) → Room R (length entries) → e ≡ nearerOf (entryAt tail) (entryAt head) metres
       → ent 𝓤 (⋆ 𝓤 H A (‵ (fobs γ (codedHoleys R .code (heres R (set entries tail e)))) ∷ ‵ (fbor κ (Held R (length (set entries tail e)) b o γ)) ∷ ‵ (flft κ q) ∷ ‵ numbers ∷ [])) (Post vunit)
   unfolding relaxedIn
   exits e room is =
@@ -129,7 +129,7 @@ module _ {M : Type 1} (𝓤 : URA M) (H : Heap 𝓤) (A : Atoms 𝓤) (W : Given
   goes-nearer fits sum-fits is-head =
       qed W (‵ (R .own (entryAt tail) (machine (entryAt tail) ∷ [])) ∷ []) ∵ says ! sum-fits $ nothing ! $ frame ! $
       nothing ! $ owned ! u32 (Is u32) (uint-makes 𝓤 H A W w32) metres _ (refl, fits) $ fjoin ! $
-      owned ! R (Is R) (structs.makes entry.the-type entry-laws.the-plain 𝓤 H A) (entryAt head) _ is-head $ fjoin ! $ move ! (1 ∷ 0 ∷ []) $ fjoin ! $ done !
+      owned ! R (Is R) (structs.makes distance.the-type distance-laws.the-plain 𝓤 H A) (entryAt head) _ is-head $ fjoin ! $ move ! (1 ∷ 0 ∷ []) $ fjoin ! $ done !
 
   -- ---- the walk
 
@@ -148,33 +148,33 @@ module _ {M : Type 1} (𝓤 : URA M) (H : Heap 𝓤) (A : Atoms 𝓤) (W : Given
         assigns ! (bin ! (load ! (from ! (stop !)) (look ! 27 refl)) (lit ! tt) tail-place) (from ! (stop !)) (init ! 15 refl (tt, tail-place)) $
         assigns ! (bin ! (load ! (from ! (fld ! refl (stop !))) (look-in ! 29 (sub ! 0 refl (whole !)))) (load ! (from ! (stop !)) (look ! 15 refl)) tt) (from ! (stop !)) (init ! 13 refl (tt, tt)) $ rewrite ! 13 (λ (p : ℕ). ‵ (fat fullShare tyPtr l₉ 0 (vptr b p))) (sym (place-is size o tail)) refl $
         elem-out ! R (Is R) (shows 𝓤 H A R) values tells fullShare entries tail unreached b o (fits .tail-inside) (λ is-tail.
-        use1 W (‵ (fat fullShare entry-laws.mir b (place size o tail) (machine (entryAt tail)))) (W .laws .raw-at fullShare entry-laws.mir b (place size o tail) (machine (entryAt tail))) $
+        use1 W (‵ (fat fullShare distance-laws.mir b (place size o tail) (machine (entryAt tail)))) (W .laws .raw-at fullShare distance-laws.mir b (place size o tail) (machine (entryAt tail))) $
         assigns ! (of-opd ! (load ! (from ! (hop ! (look ! 15 refl) (stop !))) (look ! 0 refl))) (from ! (stop !)) (init ! 13 refl (typed (entryAt tail) _ is-tail .0)) $
-        use1 W (‵ (cellAt fullShare (R .mir) (machine (entryAt tail) ∷ []) b (place size o tail))) (W .laws .at-raw fullShare entry-laws.mir b (place size o tail) (machine (entryAt tail))) $
+        use1 W (‵ (cellAt fullShare (R .mir) (machine (entryAt tail) ∷ []) b (place size o tail))) (W .laws .at-raw fullShare distance-laws.mir b (place size o tail) (machine (entryAt tail))) $
         elem-back ! R fullShare entries tail unreached (machine (entryAt tail) ∷ []) b o (fits .tail-inside) $
         assigns ! (of-opd ! (load ! (from ! (stop !)) (look ! 11 refl))) (from ! (stop !)) (init ! 21 refl (typed (entryAt tail) _ is-tail .0)) $
         -- let to = entries[head];
         assigns ! (bin ! (load ! (from ! (stop !)) (look ! 25 refl)) (lit ! tt) head-place) (from ! (stop !)) (store ! 15 refl (tt, head-place)) $
         assigns ! (bin ! (load ! (from ! (fld ! refl (stop !))) (look-in ! 29 (sub ! 0 refl (whole !)))) (load ! (from ! (stop !)) (look ! 15 refl)) tt) (from ! (stop !)) (init ! 9 refl (tt, tt)) $ rewrite ! 9 (λ (p : ℕ). ‵ (fat fullShare tyPtr l₁₁ 0 (vptr b p))) (sym (place-is size o head)) refl $
         elem-out ! R (Is R) (shows 𝓤 H A R) values tells fullShare entries head unreached b o (fits .head-inside) (λ is-head.
-        use1 W (‵ (fat fullShare entry-laws.mir b (place size o head) (machine (entryAt head)))) (W .laws .raw-at fullShare entry-laws.mir b (place size o head) (machine (entryAt head))) $
+        use1 W (‵ (fat fullShare distance-laws.mir b (place size o head) (machine (entryAt head)))) (W .laws .raw-at fullShare distance-laws.mir b (place size o head) (machine (entryAt head))) $
         assigns ! (of-opd ! (load ! (from ! (hop ! (look ! 11 refl) (stop !))) (look ! 0 refl))) (from ! (stop !)) (store ! 13 refl (typed (entryAt head) _ is-head .0)) $
-        use1 W (‵ (cellAt fullShare (R .mir) (machine (entryAt head) ∷ []) b (place size o head))) (W .laws .at-raw fullShare entry-laws.mir b (place size o head) (machine (entryAt head))) $
+        use1 W (‵ (cellAt fullShare (R .mir) (machine (entryAt head) ∷ []) b (place size o head))) (W .laws .at-raw fullShare distance-laws.mir b (place size o head) (machine (entryAt head))) $
         elem-back ! R fullShare entries head unreached (machine (entryAt head) ∷ []) b o (fits .head-inside) $
         assigns ! (of-opd ! (load ! (from ! (stop !)) (look ! 11 refl))) (from ! (stop !)) (init ! 19 refl (typed (entryAt head) _ is-head .0)) $
         -- let new = nearer(from, to, metres);
-        owned ! R (Is R) (structs.makes entry.the-type entry-laws.the-plain 𝓤 H A) (entryAt tail) _ is-tail $ use1 W (raw (Nearer 𝓤 H A mem run .pre to-nearer)) (goes-nearer metres-fits (fits .room) is-head) $
+        owned ! R (Is R) (structs.makes distance.the-type distance-laws.the-plain 𝓤 H A) (entryAt tail) _ is-tail $ use1 W (raw (Nearer 𝓤 H A mem run .pre to-nearer)) (goes-nearer metres-fits (fits .room) is-head) $
         calls-at ! fm (Nearer 𝓤 H A mem run) known to-nearer (and-then ! (load ! (from ! (stop !)) (look ! 22 refl)) (and-then ! (load ! (from ! (stop !)) (look ! 20 refl)) (and-then ! (load ! (from ! (stop !)) (look ! 24 refl)) (no-more !)))) (λ v.
-        use1 W (later (some (λ (e : Entry). (‵ ftrue ⊛ ‵ (R .own e (v ∷ []))) ⊛ raw (ensured 𝓤 H A nearer.ended (nearer.clauses 𝓤 H A mem run) tt (entryAt tail, (entryAt head, (metres, tt))) tt e)))) (id⊢ 𝓤 _) $ await ! tt $ pick ! (λ e.
+        use1 W (later (some (λ (e : Distance). (‵ ftrue ⊛ ‵ (R .own e (v ∷ []))) ⊛ raw (ensured 𝓤 H A nearer.ended (nearer.clauses 𝓤 H A mem run) tt (entryAt tail, (entryAt head, (metres, tt))) tt e)))) (id⊢ 𝓤 _) $ await ! tt $ pick ! (λ e.
         split ! $ move ! (1 ∷ []) $ use1 W (raw (fact 𝓤 (e ≡ nearerOf (entryAt tail) (entryAt head) metres))) (nearer-ensures 𝓤 H A mem run (entryAt tail) (entryAt head) metres e) $ heard ! (e ≡ nearerOf (entryAt tail) (entryAt head) metres) (λ is-nearer. split ! $ drop ! $
         peeks ! R (Is R) (shows 𝓤 H A R) e (v ∷ []) (λ is-e. land ! (from ! (stop !)) (init ! 18 refl (typed e _ is-e .0)) $
         -- entries[tail] = new;
         assigns ! (bin ! (load ! (from ! (stop !)) (look ! 28 refl)) (lit ! tt) tail-place) (from ! (stop !)) (store ! 16 refl (tt, tail-place)) $
         assigns ! (bin ! (load ! (from ! (fld ! refl (stop !))) (look-in ! 30 (sub ! 0 refl (whole !)))) (load ! (from ! (stop !)) (look ! 16 refl)) tt) (from ! (stop !)) (init ! 8 refl (tt, tt)) $ rewrite ! 8 (λ (p : ℕ). ‵ (fat fullShare tyPtr l₁₂ 0 (vptr b p))) (sym (place-is size o tail)) refl $
         move ! (1 ∷ 0 ∷ []) $ elem-out ! R (Is R) (shows 𝓤 H A R) values tells fullShare entries tail unreached b o (fits .tail-inside) (λ _.
-        use1 W (‵ (fat fullShare entry-laws.mir b (place size o tail) (machine (entryAt tail)))) (W .laws .raw-at fullShare entry-laws.mir b (place size o tail) (machine (entryAt tail))) $
+        use1 W (‵ (fat fullShare distance-laws.mir b (place size o tail) (machine (entryAt tail)))) (W .laws .raw-at fullShare distance-laws.mir b (place size o tail) (machine (entryAt tail))) $
         assigns ! (of-opd ! (load ! (from ! (stop !)) (look ! 20 refl))) (from ! (hop ! (look ! 10 refl) (stop !))) (store ! 0 refl (typed e _ is-e .0)) $
-        use1 W (‵ (cellAt fullShare (R .mir) (v ∷ []) b (place size o tail))) (W .laws .at-raw fullShare entry-laws.mir b (place size o tail) v) $
+        use1 W (‵ (cellAt fullShare (R .mir) (v ∷ []) b (place size o tail))) (W .laws .at-raw fullShare distance-laws.mir b (place size o tail) v) $
         move ! (0 ∷ 3 ∷ 2 ∷ []) $ elem-put ! R fullShare entries tail e (v ∷ []) b o (fits .tail-inside) $ move ! (1 ∷ []) $ drop ! $
         closes-slice ! tt R entries (set entries tail e) (length-set entries tail e) b o $
         -- the locals are freed

@@ -47,10 +47,10 @@ use denote.Triple.Clauses.{ensured, lasts}
 use denote.Triple.Table.{entered, cited}
 use denote.Triple.Walked.{says, needs, Stays, stay-none, walkOf, goes-none, Walks, ends-at, walked, walk-meets}
 use denote.Exit.{yes}
-use Rattle.side.specs.declared.Entry.{Entry}
+use Rattle.side.specs.declared.Distance.{Distance}
 use Rattle.side.specs.Relaxing.{relaxedIn, Fits}
-use Rattle.side.proofs.Entry as entry
-use Rattle.side.proofs.Entry.Laws as entry-laws
+use Rattle.side.proofs.Distance as distance
+use Rattle.side.proofs.Distance.Laws as distance-laws
 use Rattle.side.proofs.relax as relax
 use Rattle.side.proofs.relax.Symbol as relax-symbol
 use Rattle.side.proofs.relax.Symbol.{name as #relax}
@@ -63,22 +63,22 @@ use Rattle.side.proofs.relax_in.Code as code
 -- ---- a table in memory: 32 entries
 
 abbrev R : RattleType
-R = entry.the-row
+R = distance.the-row
 
 abbrev Table : RattleType
 Table = Array R 32
 
 abbrev tableMir : Ty
-tableMir = tyArray entry-laws.mir 32
+tableMir = tyArray distance-laws.mir 32
 
-abbrev values : List Entry → List Val
-values = array-vals (structs.vals entry.the-type entry-laws.the-laws)
+abbrev values : List Distance → List Val
+values = array-vals (structs.vals distance.the-type distance-laws.the-laws)
 
-abbrev machine : List Entry → Val
+abbrev machine : List Distance → Val
 machine es = only (values es)
 
 tells : Tells Table (Is Table) values
-tells = array-tells R (structs.vals entry.the-type entry-laws.the-laws) (structs.tells entry.the-type entry-laws.the-laws) 32
+tells = array-tells R (structs.vals distance.the-type distance-laws.the-laws) (structs.tells distance.the-type distance-laws.the-laws) 32
 
 room-of : (n : ℕ) → n ≡ 32 → Room R n
 room-of n e = subst (Room R) (sym e) (lit< tt, lit< tt)
@@ -88,30 +88,30 @@ stayed = (stay-none (λ _. Table) yes, (stay-none (λ _. usize) yes, (stay-none 
 
 module _ {M : Type 1} (𝓤 : URA M) (H : Heap 𝓤) (A : Atoms 𝓤) (W : Given 𝓤 H A) where
   -- a local that holds the table is its entries in memory, and back
-  entries-of : (es : List Entry) (b o : ℕ) → Is Table es (machine es ∷ []) → ent 𝓤 (sem 𝓤 H A (fat fullShare tableMir b o (machine es))) (sem 𝓤 H A (arr-parts (shares R) 32 .part fullShare es b o))
+  entries-of : (es : List Distance) (b o : ℕ) → Is Table es (machine es ∷ []) → ent 𝓤 (sem 𝓤 H A (fat fullShare tableMir b o (machine es))) (sem 𝓤 H A (arr-parts (shares R) 32 .part fullShare es b o))
   unfolding partOf
   entries-of es b o is =
       qed W (‵ (fat fullShare tableMir b o (machine es)) ∷ []) ∵ use1 W (‵ (cellAt fullShare (Table .mir) (machine es ∷ []) b o)) (W .laws .at-raw fullShare tableMir b o (machine es)) $
-      owned ! Table (Is Table) (array-makes 𝓤 H A W R (structs.makes entry.the-type entry-laws.the-plain 𝓤 H A) 32) es _ is $ move ! (1 ∷ 0 ∷ []) $ fjoin ! $
+      owned ! Table (Is Table) (array-makes 𝓤 H A W R (structs.makes distance.the-type distance-laws.the-plain 𝓤 H A) 32) es _ is $ move ! (1 ∷ 0 ∷ []) $ fjoin ! $
       fpack ! (List Val) (λ vs. fsep (cellAt fullShare (Table .mir) vs b o) (Table .own es vs)) (machine es ∷ []) $ by ! (array-apart 𝓤 H A W R fullShare tt 32 es b o)
 
-  table-of : (es : List Entry) (b o : ℕ) → ent 𝓤 (sem 𝓤 H A (arr-parts (shares R) 32 .part fullShare es b o)) (sep 𝓤 (sem 𝓤 H A (Table .own es (machine es ∷ []))) (sem 𝓤 H A (fat fullShare tableMir b o (machine es))))
+  table-of : (es : List Distance) (b o : ℕ) → ent 𝓤 (sem 𝓤 H A (arr-parts (shares R) 32 .part fullShare es b o)) (sep 𝓤 (sem 𝓤 H A (Table .own es (machine es ∷ []))) (sem 𝓤 H A (fat fullShare tableMir b o (machine es))))
   unfolding partOf
   table-of es b o =
       qed W (‵ (arr-parts (shares R) 32 .part fullShare es b o) ∷ []) ∵ use1 W (‵ (partAt Table fullShare es b o)) (array-whole 𝓤 H A W R fullShare 32 es b o) $ fpick ! (λ vs. fsplit ! $
       spelt ! Table (Is Table) (shows 𝓤 H A Table) values tells fullShare es vs b o $
       use1 W (‵ (fat fullShare tableMir b o (machine es))) (W .laws .raw-at fullShare tableMir b o (machine es)) $ move ! (1 ∷ 0 ∷ []) $ done !)
 
-  abbrev typed : (es : List Entry) (vs : List Val) → Is Table es vs → Typed (Table .mir) vs
-  typed = array-lawful 𝓤 H A W R (structs.lawful entry.the-type entry-laws.the-laws 𝓤 H A W) 32 .typed
+  abbrev typed : (es : List Distance) (vs : List Val) → Is Table es vs → Typed (Table .mir) vs
+  typed = array-lawful 𝓤 H A W R (structs.lawful distance.the-type distance-laws.the-laws 𝓤 H A W) 32 .typed
 
 abbrev Relax : {M : Type 1} (𝓤 : URA M) (H : Heap 𝓤) (A : Atoms 𝓤) (mem : Memory → SProp 𝓤) (run : Routine → Fun 𝓤) → Contract 𝓤
 Relax 𝓤 H A mem run = tripleOf 𝓤 H A relax.signature (relax.spec 𝓤 H A mem run)
 
-module _ {M : Type 1} (𝓤 : URA M) (H : Heap 𝓤) (A : Atoms 𝓤) (W : Given 𝓤 H A) (mem : Memory → SProp 𝓤) (run : Routine → Fun 𝓤) (entries : List Entry) (tail head metres : ℕ)
+module _ {M : Type 1} (𝓤 : URA M) (H : Heap 𝓤) (A : Atoms 𝓤) (W : Given 𝓤 H A) (mem : Memory → SProp 𝓤) (run : Routine → Fun 𝓤) (entries : List Distance) (tail head metres : ℕ)
     (is-table : Is Table entries (machine entries ∷ [])) (tail-fits : tail < 2 ^ 64) (head-fits : head < 2 ^ 64) (metres-fits : metres < 2 ^ 32) (fits : Fits entries tail head metres) where
   -- the arguments, and the values that stand for them
-  abbrev args : List Entry × (ℕ × (ℕ × (ℕ × Unit {0})))
+  abbrev args : List Distance × (ℕ × (ℕ × (ℕ × Unit {0})))
   args = (entries, (tail, (head, (metres, tt))))
 
   abbrev vals : List Val × (List Val × (List Val × (List Val × Unit {0})))
@@ -122,17 +122,17 @@ module _ {M : Type 1} (𝓤 : URA M) (H : Heap 𝓤) (A : Atoms 𝓤) (W : Given
   abbrev Post : Val → SProp 𝓤
   Post = walkOf 𝓤 H A relax-in.ended stayed (relax-in.clauses 𝓤 H A mem run) .post ((tt, tt, tt, args, vals), tt)
 
-  exits : (es : List Entry) → es ≡ relaxedIn entries tail head metres → ent 𝓤 (sem 𝓤 H A (Table .own es (machine es ∷ []))) (Post (machine es))
+  exits : (es : List Distance) → es ≡ relaxedIn entries tail head metres → ent 𝓤 (sem 𝓤 H A (Table .own es (machine es ∷ []))) (Post (machine es))
   exits es is =
       qed W (‵ (Table .own es (machine es ∷ [])) ∷ []) ∵
       suffices ! _ (ends-at 𝓤 H A relax-in.ended stayed (relax-in.clauses 𝓤 H A mem run) W ((tt, tt, tt, args, vals), tt) (machine es) es (tt, (tt, (tt, (tt, tt)))) (tt, (tt, (tt, (tt, tt))))) $ says ! is $
       nothing ! $ owned ! u32 (Is u32) (uint-makes 𝓤 H A W w32) metres _ (refl, metres-fits) $ fjoin ! $ owned ! usize (Is usize) (uint-makes 𝓤 H A W w64) head _ (refl, head-fits) $ fjoin ! $
       owned ! usize (Is usize) (uint-makes 𝓤 H A W w64) tail _ (refl, tail-fits) $ fjoin ! $
-      owned ! Table (Is Table) (array-makes 𝓤 H A W R (structs.makes entry.the-type entry-laws.the-plain 𝓤 H A) 32) entries _ is-table $ fjoin ! $ nothing ! $ done !
+      owned ! Table (Is Table) (array-makes 𝓤 H A W R (structs.makes distance.the-type distance-laws.the-plain 𝓤 H A) 32) entries _ is-table $ fjoin ! $ nothing ! $ done !
 
   -- ---- the call: `relax` takes the local at l as a slice, for the lifetime ν, under the name δ
 
-  abbrev lent : ℕ → GName → RefT (List Entry)
+  abbrev lent : ℕ → GName → RefT (List Distance)
   lent l δ = record { ptr = (l, 0); name = δ; now = entries }
 
   abbrev to-relax : ℕ → ℕ → GName → Relax 𝓤 H A mem run .Ghost
@@ -167,7 +167,7 @@ module _ {M : Type 1} (𝓤 : URA M) (H : Heap 𝓤) (A : Atoms 𝓤) (W : Given
         move ! (2 ∷ 0 ∷ []) $ use2 W (raw (Relax 𝓤 H A mem run .pre (to-relax l₅ ν δ))) (goes-relax l₅ ν δ) $
         calls-at ! fm (Relax 𝓤 H A mem run) known (to-relax l₅ ν δ) (and-then ! (load ! (from ! (stop !)) (look ! 2 refl)) (and-then ! (load ! (from ! (stop !)) (look ! 13 refl)) (and-then ! (load ! (from ! (stop !)) (look ! 11 refl)) (and-then ! (load ! (from ! (stop !)) (look ! 9 refl)) (no-more !))))) (λ v.
         use1 W (later (some (λ (r : Unit {0}). ((‵ (flft (ν ∷ []) fullShare) ⊛ ‵ ftrue) ⊛ ‵ (Nothing .own r (v ∷ []))) ⊛ raw (ensured 𝓤 H A relax.ended (relax.clauses 𝓤 H A mem run) (ν ∷ [], tt) (lent l₅ δ, (tail, (head, (metres, tt)))) tt r)))) (id⊢ 𝓤 _) $ await ! tt $ pick ! (λ r.
-        split ! $ move ! (1 ∷ []) $ use1 W (some (λ (left : List Entry × (Unit {0} × (Unit {0} × (Unit {0} × Unit {0})))). ‵ (lasts relax.ended (ν ∷ [], tt) (lent l₅ δ, (tail, (head, (metres, tt)))) left) ⊛ raw (fact 𝓤 (left .0 ≡ relaxedIn entries tail head metres)))) (id⊢ 𝓤 _) $ pick ! (λ left.
+        split ! $ move ! (1 ∷ []) $ use1 W (some (λ (left : List Distance × (Unit {0} × (Unit {0} × (Unit {0} × Unit {0})))). ‵ (lasts relax.ended (ν ∷ [], tt) (lent l₅ δ, (tail, (head, (metres, tt)))) left) ⊛ raw (fact 𝓤 (left .0 ≡ relaxedIn entries tail head metres)))) (id⊢ 𝓤 _) $ pick ! (λ left.
         split ! $ move ! (1 ∷ []) $ heard ! (left .0 ≡ relaxedIn entries tail head metres) (λ is-relaxed. fsplit ! $ fsplit ! $ move ! (1 ∷ []) $ feqL ! (λ _. move ! (2 ∷ []) $ split ! $ move ! (1 ∷ []) $ peeks ! Nothing (Is Nothing) (shows 𝓤 H A Nothing) r (v ∷ []) (λ is-unit.
         -- [the result's; the token; the last list; …; the lender's part; _8; …; _7; …; _6; …; _5's …; _4; …; _1; …; room for _0; …; …]
         land ! (from ! (stop !)) (init ! 9 refl (nothing-lawful 𝓤 H A W .typed r _ is-unit .0)) $

@@ -1,22 +1,25 @@
 -- `sweep::walk` meets its contract. The invariant: the cap is not passed, and the sweep that the words say stands at an arc of the node's chain (`Walking`).
 -- Each kind of arc has its law, of the arc in hand. The loop's measure is the arcs ahead, the recursion's the nodes not met. Assumes nothing.
+use mathlib.Core.Path.{_≡_}
 use native.Mathlib.Omega.{arith}
 use lib.ListN.{length}
 use Rattle.laws.specs.Sets.{unmet}
-use Rattle.net.specs.Net.{arcsIn}
+use Rattle.net.specs.Net.{nextFrom, wordAt, arcsIn}
+use Rattle.net.specs.Search.{behind}
 use Rattle.sweep.specs.Run.{UnderWay}
 use Rattle.sweep.proofs.WalkLaws.{cut-under-way, Walking, walking-start, walking-end, walking-over, walking-on, InHand, walking-past, walking-met, walking-cut, route-in-reach, walking-ends, walking-leads}
-use Prim.Native.Nat.{ℕ, _-_, _<_}
 use borrow.Author.Needs.{needs}
+use Prim.Native.Nat.{ℕ, _+_, _-_, _<_}
 use borrow.Fn.Kinds.{In}
 use borrow.Fn.PlainCycle.{Measures, is, falls, and}
 use Rattle.sweep.proofs.walk.Reads as walk
 use Rattle.sweep.proofs.walk.Kinds as walk-kinds
 use Rattle.sweep.proofs.+walk.Lts-walk as walk-lts
+use Rattle.look.proofs.look.Reads as look-reads
 use Rattle.net.proofs.arc_count.Reads as arc-count-reads
 use Rattle.net.proofs.first.Reads as first-reads
+use Rattle.net.proofs.next.Reads as next-reads
 use Rattle.sweep.proofs.cut_at.Reads as cut-at-reads
-use Rattle.sweep.proofs.look.Reads as look-reads
 use Rattle.sweep.proofs.meet_route.Reads as meet-route-reads
 use Rattle.sweep.proofs.+walk.{statement}
 use Rattle.sweep.proofs.+walk.Tie.{close}
@@ -36,6 +39,8 @@ called t = (
   first-reads.Learnt,
   arc-count-reads.Asked,
   arc-count-reads.Learnt,
+  next-reads.Asked,
+  next-reads.Learnt,
   look-reads.Asked,
   look-reads.Learnt,
   cut-at-reads.Asked,
@@ -47,32 +52,36 @@ called t = (
 )
 
 abbrev walk-Inv-loop : walk-lts.InvT-loop
-walk-Inv-loop net run₀ at met metres risks i₀ run i = UnderWay run × Walking net at met metres risks run₀ run i
+walk-Inv-loop net run₀ at met metres exposure i₀ run i = UnderWay run × Walking net at (behind met metres exposure) run₀ run i
 
 abbrev walk-μ-loop : walk-lts.MeasureT-loop
-walk-μ-loop net run₀ at met metres risks i₀ run i = length (arcsIn net) - i
+walk-μ-loop net run₀ at met metres exposure i₀ run i = length (arcsIn net) - i
 
 -- where an arc was looked at
 abbrev Looked : ℕ → Type 0
 Looked t = walk-lts.After-look (called t) (walk-at t) walk.Post walk-Inv-loop walk-μ-loop
 
-in-hand : (t : ℕ) (k : Looked t) → let o = k .before .before .before .before in let s = o .before .before .before in
-    InHand (s .args .net .now) (s .args .at) (s .args .met) (s .args .metres) (s .args .risks) (s .args .run .now) (o .loop .run) (o .loop .i) (k .look .result)
+abbrev start : (t : ℕ) → Looked t → walk-lts.Start (called t) (walk-at t) walk.Post walk-Inv-loop walk-μ-loop
+start t k = k .before .before .before .before .before .before .before .before
+
+in-hand : (t : ℕ) (k : Looked t) → let o = k .before .before .before .before .before in let a = start t k .args in
+    InHand (a .net .now) (a .at) (behind (a .met) (a .metres) (a .exposure)) (a .run .now) (o .loop .run) (o .loop .i) (k .look .result)
 in-hand t k =
-    let o = k .before .before .before .before in
-    let s = o .before .before .before in
+    let o = k .before .before .before .before .before in
     record {
-      start = s .pre .1 .0;
+      start = start t k .pre .1 .0;
       walking = o .loop .inv .1;
       under-way = o .loop .inv .0;
-      inside = omega (arith, k .before .before .if1 .taken, k .before .before .before .arc-count .ensures);
-      seen = k .look .ensures .1;
+      inside = omega (arith, k .before .before .before .if1 .taken, k .before .before .before .before .arc-count .ensures);
+      seen = k .look .ensures;
     }
 
+next-is : (t : ℕ) (k : Looked t) → let o = k .before .before .before .before .before in k .before .before .next .result ≡ wordAt (start t k .args .net .now) (nextFrom + o .loop .i)
+next-is t k = k .before .before .next .ensures
+
 -- the arcs ahead get fewer
-fewer-ahead : (t : ℕ) (k : Looked t) → let o = k .before .before .before .before in let s = o .before .before .before in
-    length (arcsIn (s .args .net .now)) - k .look .result .next < length (arcsIn (s .args .net .now)) - o .loop .i
-fewer-ahead t k = omega (arith, k .look .ensures .0, in-hand t k .inside, walking-past (in-hand t k))
+fewer-ahead : (t : ℕ) (k : Looked t) → let n = length (arcsIn (start t k .args .net .now)) in n - k .before .before .next .result < n - k .before .before .before .before .before .loop .i
+fewer-ahead t k = omega (arith, next-is t k, in-hand t k .inside, walking-past (in-hand t k))
 
 walk-first-requires : (t : ℕ) → walk-lts.Need-first-requires (called t) (walk-at t) walk.Post walk-Inv-loop walk-μ-loop
 walk-first-requires t c κs = let r = c .before .pre .1 .0 in (r .words, r .node)
@@ -80,81 +89,103 @@ walk-first-requires t c κs = let r = c .before .pre .1 .0 in (r .words, r .node
 walk-loop-holds : (t : ℕ) → walk-lts.Need-loop-holds (called t) (walk-at t) walk.Post walk-Inv-loop walk-μ-loop
 walk-loop-holds t c =
     let s = c .before .before in
-    (s .pre .1 .1, rw (c .first .ensures) (walking-start (s .args .met) (s .args .risks) (s .args .run .now) (s .pre .1 .0)))
+    let a = s .args in
+    (s .pre .1 .1, rw (c .first .ensures) (walking-start (behind (a .met) (a .metres) (a .exposure)) (a .run .now) (s .pre .1 .0)))
 
 walk-arc-count-requires : (t : ℕ) → walk-lts.Need-arc-count-requires (called t) (walk-at t) walk.Post walk-Inv-loop walk-μ-loop
 walk-arc-count-requires t c κs = c .before .before .before .pre .1 .0 .words
 
+walk-next-requires : (t : ℕ) → walk-lts.Need-next-requires (called t) (walk-at t) walk.Post walk-Inv-loop walk-μ-loop
+walk-next-requires t c κs =
+    let n = c .before in
+    (n .before .before .before .before .pre .1 .0 .words, omega (arith, c .if1 .taken, n .arc-count .ensures))
+
+walk-element-copy-out-look : (t : ℕ) → walk-lts.Need-element-copy-out-look (called t) (walk-at t) walk.Post walk-Inv-loop walk-μ-loop
+walk-element-copy-out-look t c = search needs
+
 walk-look-requires : (t : ℕ) → walk-lts.Need-look-requires (called t) (walk-at t) walk.Post walk-Inv-loop walk-μ-loop
 walk-look-requires t c κs =
-    let n = c .before .before in
+    let n = c .before .before .before in
     let r = n .before .before .before .before .pre .1 .0 in
-    (r .words, omega (arith, c .before .if1 .taken, n .arc-count .ensures), omega (arith, r .in-window, r .hi-range))
+    (r .words, omega (arith, c .before .before .if1 .taken, n .arc-count .ensures), omega (arith, r .in-window, r .hi-range))
 
-walk-cut-at-requires : (t : ℕ) → walk-lts.Need-cut-at-requires (called t) (walk-at t) walk.Post walk-Inv-loop walk-μ-loop
-walk-cut-at-requires t c κs = in-hand t (c .before .before .before) .under-way .size
+walk-enum-told : (t : ℕ) → walk-lts.Need-enum-told (called t) (walk-at t) walk.Post walk-Inv-loop walk-μ-loop
+walk-enum-told t c = search needs
 
 walk-loop-less : (t : ℕ) → walk-lts.Need-loop-less (called t) (walk-at t) walk.Post walk-Inv-loop walk-μ-loop
-walk-loop-less t c = fewer-ahead t (c .before .before .before .before)
+walk-loop-less t c = fewer-ahead t (c .before .before)
 
 walk-loop-again : (t : ℕ) → walk-lts.Need-loop-again (called t) (walk-at t) walk.Post walk-Inv-loop walk-μ-loop
-walk-loop-again t c =
-    let k = c .before .before .before .before in
-    (cut-under-way (c .cut-at .ensures) (in-hand t k .under-way), rw (k .look .ensures .0) (walking-cut (in-hand t k) (c .before .before .if2 .taken) (c .cut-at .ensures)))
+walk-loop-again t c = let k = c .before .before in (in-hand t k .under-way, rw (next-is t k) (walking-met (in-hand t k) (c .enum-told .given .1)))
+
+walk-enum-known-to : (t : ℕ) → walk-lts.Need-enum-known-to (called t) (walk-at t) walk.Post walk-Inv-loop walk-μ-loop
+walk-enum-known-to t c = search needs
+
+walk-cut-at-requires : (t : ℕ) → walk-lts.Need-cut-at-requires (called t) (walk-at t) walk.Post walk-Inv-loop walk-μ-loop
+walk-cut-at-requires t c κs = in-hand t (c .before .before .before .before) .under-way .size
+
+walk-loop-less-2 : (t : ℕ) → walk-lts.Need-loop-less-2 (called t) (walk-at t) walk.Post walk-Inv-loop walk-μ-loop
+walk-loop-less-2 t c = fewer-ahead t (c .before .before .before .before .before)
+
+walk-loop-again-2 : (t : ℕ) → walk-lts.Need-loop-again-2 (called t) (walk-at t) walk.Post walk-Inv-loop walk-μ-loop
+walk-loop-again-2 t c =
+    let k = c .before .before .before .before .before in
+    (cut-under-way (c .cut-at .ensures) (in-hand t k .under-way), rw (next-is t k) (walking-cut (in-hand t k) (c .before .before .before .to .given .1) (c .cut-at .ensures)))
+
+walk-enum-known-route : (t : ℕ) → walk-lts.Need-enum-known-route (called t) (walk-at t) walk.Post walk-Inv-loop walk-μ-loop
+walk-enum-known-route t c = search needs
 
 walk-meet-route-requires : (t : ℕ) → walk-lts.Need-meet-route-requires (called t) (walk-at t) walk.Post walk-Inv-loop walk-μ-loop
 walk-meet-route-requires t c κs =
-    let h = in-hand t (c .before .before .before .before .before) in
-    (h .start .words, route-in-reach h (c .before .if3 .taken), h .under-way)
+    let h = in-hand t (c .before .before .before .before) in
+    (h .start .words, route-in-reach h (c .before .before .route .given .1), h .under-way)
+
+walk-element-copy-out-if2 : (t : ℕ) → walk-lts.Need-element-copy-out-if2 (called t) (walk-at t) walk.Post walk-Inv-loop walk-μ-loop
+walk-element-copy-out-if2 t c = search needs
 
 walk-returns : (t : ℕ) → walk-lts.Need-returns (called t) (walk-at t) walk.Post walk-Inv-loop walk-μ-loop
 walk-returns t c =
     let m = c .before .before in
-    let h = in-hand t (m .before .before .before .before .before .before) in
-    walking-over (walking-ends h (m .before .before .if3 .taken) (m .meet-route .ensures)) (h .start .words) (c .if4 .taken)
-
-walk-loop-less-2 : (t : ℕ) → walk-lts.Need-loop-less-2 (called t) (walk-at t) walk.Post walk-Inv-loop walk-μ-loop
-walk-loop-less-2 t c = fewer-ahead t (c .before .before .before .before .before .before .before .before)
-
-walk-loop-again-2 : (t : ℕ) → walk-lts.Need-loop-again-2 (called t) (walk-at t) walk.Post walk-Inv-loop walk-μ-loop
-walk-loop-again-2 t c =
-    let m = c .before .before in
-    let k = m .before .before .before .before .before .before in
-    let s = k .before .before .before .before .before .before .before in
-    let w = walking-ends (in-hand t k) (m .before .before .if3 .taken) (m .meet-route .ensures) in
-    (walking-on w (s .pre .1 .1) (c .if4 .left), rw (k .look .ensures .0) w)
-
-walk-walk-requires : (t : ℕ) → walk-lts.Need-walk-requires (called t) (walk-at t) walk.Post walk-Inv-loop walk-μ-loop
-walk-walk-requires t c κs =
-    let k = c .before .before .before .before .before .before .before in
-    let s = k .before .before .before .before .before .before .before in
-    let a = walking-leads (in-hand t k) (c .before .if5 .taken) in
-    (omega (arith, s .pre .0, a .fewer-nodes), (a .ready, in-hand t k .under-way))
-
-walk-returns-2 : (t : ℕ) → walk-lts.Need-returns-2 (called t) (walk-at t) walk.Post walk-Inv-loop walk-μ-loop
-walk-returns-2 t c =
-    let m = c .before .before in
-    let h = in-hand t (m .before .before .before .before .before .before .before .before) in
-    walking-over (walking-leads h (m .before .before .if5 .taken) .gives (m .walk .ensures)) (h .start .words) (c .if6 .taken)
+    let h = in-hand t (m .before .before .before .before .before) in
+    walking-over (walking-ends h (m .before .before .before .route .given .1) (m .meet-route .ensures)) (h .start .words) (c .if2 .taken)
 
 walk-loop-less-3 : (t : ℕ) → walk-lts.Need-loop-less-3 (called t) (walk-at t) walk.Post walk-Inv-loop walk-μ-loop
-walk-loop-less-3 t c = fewer-ahead t (c .before .before .before .before .before .before .before .before .before .before)
+walk-loop-less-3 t c = fewer-ahead t (c .before .before .before .before .before .before .before)
 
 walk-loop-again-3 : (t : ℕ) → walk-lts.Need-loop-again-3 (called t) (walk-at t) walk.Post walk-Inv-loop walk-μ-loop
 walk-loop-again-3 t c =
     let m = c .before .before in
-    let k = m .before .before .before .before .before .before .before .before in
-    let s = k .before .before .before .before .before .before .before in
-    let w = walking-leads (in-hand t k) (m .before .before .if5 .taken) .gives (m .walk .ensures) in
-    (walking-on w (s .pre .1 .1) (c .if6 .left), rw (k .look .ensures .0) w)
+    let k = m .before .before .before .before .before in
+    let w = walking-ends (in-hand t k) (m .before .before .before .route .given .1) (m .meet-route .ensures) in
+    (walking-on w (start t k .pre .1 .1) (c .if2 .left), rw (next-is t k) w)
+
+walk-enum-known-head : (t : ℕ) → walk-lts.Need-enum-known-head (called t) (walk-at t) walk.Post walk-Inv-loop walk-μ-loop
+walk-enum-known-head t c = search needs
+
+walk-walk-requires : (t : ℕ) → walk-lts.Need-walk-requires (called t) (walk-at t) walk.Post walk-Inv-loop walk-μ-loop
+walk-walk-requires t c κs =
+    let k = c .before .before .before .before in
+    let a = walking-leads (in-hand t k) (c .before .before .head .given .1) in
+    (omega (arith, start t k .pre .0, a .fewer-nodes), (a .ready, in-hand t k .under-way))
+
+walk-element-copy-out-if3 : (t : ℕ) → walk-lts.Need-element-copy-out-if3 (called t) (walk-at t) walk.Post walk-Inv-loop walk-μ-loop
+walk-element-copy-out-if3 t c = search needs
+
+walk-returns-2 : (t : ℕ) → walk-lts.Need-returns-2 (called t) (walk-at t) walk.Post walk-Inv-loop walk-μ-loop
+walk-returns-2 t c =
+    let m = c .before .before in
+    let h = in-hand t (m .before .before .before .before .before) in
+    walking-over (walking-leads h (m .before .before .before .head .given .1) .gives (m .walk .ensures)) (h .start .words) (c .if3 .taken)
 
 walk-loop-less-4 : (t : ℕ) → walk-lts.Need-loop-less-4 (called t) (walk-at t) walk.Post walk-Inv-loop walk-μ-loop
-walk-loop-less-4 t c = fewer-ahead t (c .before .before .before .before .before .before)
+walk-loop-less-4 t c = fewer-ahead t (c .before .before .before .before .before .before .before)
 
 walk-loop-again-4 : (t : ℕ) → walk-lts.Need-loop-again-4 (called t) (walk-at t) walk.Post walk-Inv-loop walk-μ-loop
 walk-loop-again-4 t c =
-    let k = c .before .before .before .before .before .before in
-    (in-hand t k .under-way, rw (k .look .ensures .0) (walking-met (in-hand t k) (c .before .before .before .before .if2 .left) (c .before .before .if3 .left) (c .if5 .left)))
+    let m = c .before .before in
+    let k = m .before .before .before .before .before in
+    let w = walking-leads (in-hand t k) (m .before .before .before .head .given .1) .gives (m .walk .ensures) in
+    (walking-on w (start t k .pre .1 .1) (c .if3 .left), rw (next-is t k) w)
 
 walk-returns-3 : (t : ℕ) → walk-lts.Need-returns-3 (called t) (walk-at t) walk.Post walk-Inv-loop walk-μ-loop
 walk-returns-3 t c =
@@ -171,21 +202,26 @@ pub +walk-spec : {M : Type 1} → statement M
     (walk-first-requires t)
     (walk-loop-holds t)
     (walk-arc-count-requires t)
-    (λ c. search needs)
+    (walk-next-requires t)
+    (walk-element-copy-out-look t)
     (walk-look-requires t)
-    (walk-cut-at-requires t)
+    (walk-enum-told t)
     (walk-loop-less t)
     (walk-loop-again t)
-    (walk-meet-route-requires t)
-    (λ c. search needs)
-    (walk-returns t)
+    (walk-enum-known-to t)
+    (walk-cut-at-requires t)
     (walk-loop-less-2 t)
     (walk-loop-again-2 t)
-    (walk-walk-requires t)
-    (λ c. search needs)
-    (walk-returns-2 t)
+    (walk-enum-known-route t)
+    (walk-meet-route-requires t)
+    (walk-element-copy-out-if2 t)
+    (walk-returns t)
     (walk-loop-less-3 t)
     (walk-loop-again-3 t)
+    (walk-enum-known-head t)
+    (walk-walk-requires t)
+    (walk-element-copy-out-if3 t)
+    (walk-returns-2 t)
     (walk-loop-less-4 t)
     (walk-loop-again-4 t)
     (walk-returns-3 t)

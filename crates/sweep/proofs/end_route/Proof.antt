@@ -7,14 +7,11 @@ use Rattle.sweep.proofs.end_route.Tie as tie
 
 returns : tie.Need-returns
 unfolding ended
-returns c = rw (lt-ltb _ _ (c .if1 .taken), ended)
-
-lend-tally-requires : tie.Need-lend-tally-requires
-lend-tally-requires c κs = search needs
+returns c = rw (lt-ltb _ _ (c .if1 .taken))
 
 returns-2 : tie.Need-returns-2
 unfolding ended
-returns-2 c = rw (le-ltb _ _ (c .before .if1 .left), ended) (c .lend-tally .ensures)
+returns-2 c = rw (le-ltb _ _ (c .before .if1 .left)) (c .try-main .ensures)
 
 pub end-route-spec : {M : Type 1} → statement M
-end-route-spec = tie.close (tie.spec returns lend-tally-requires returns-2)
+end-route-spec = tie.close (tie.spec returns (λ c κs. search needs) returns-2)

@@ -11,7 +11,7 @@ returns : tie.Need-returns
 returns c =
     let e = c .before in
     let s = e .before .before .before .before .before .before .before .before in
-    route-met (s .args .net .now) (s .args .metres) (s .args .risks) (s .pre .2) (e .end-route .result) (c .flag .result) (c .flag .ensures) (e .end-route .ensures)
+    route-met _ (s .args .route) (s .pre .2) (e .end-route .result) (c .flag .result) (c .flag .ensures) (e .end-route .ensures)
 
 pub meet-route-spec : {M : Type 1} → statement M
 meet-route-spec =

@@ -1,20 +1,32 @@
--- `sweep::sweep` meets its contract: past the cap nothing changes; else what the walk leaves in the words is read back. Assumes nothing.
-use Rattle.sweep.proofs.WalkLaws.{walk-sweeps, over-sweeps}
+-- `sweep::sweep` meets its contract: past the cap nothing changes; else what the walk from the source leaves in the words is read back. Assumes nothing.
+use native.Mathlib.Omega.{arith}
 use borrow.Author.Needs.{needs}
+use Rattle.sweep.proofs.SweepLaws.{over-all}
+use Rattle.sweep.proofs.WalkLaws.{walk-sweeps}
 use Rattle.sweep.proofs.sweep.Statement.{statement}
 use Rattle.sweep.proofs.sweep.Tie as tie
 
 returns : tie.Need-returns
-returns c = let s = c .before .before .before in over-sweeps (s .args .met) (s .args .risks) (s .pre) (c .if1 .taken)
-
-walk-requires : tie.Need-walk-requires
-walk-requires c κs = search needs
-
-swept-in-requires : tie.Need-swept-in-requires
-swept-in-requires c κs = search needs
+returns c = let s = c .before .before in over-all _ (s .args .w) (s .args .t) _ (omega (arith, s .pre .0 .reach-range, s .pre .1)) (c .if1 .taken)
 
 returns-2 : tie.Need-returns-2
-returns-2 c = walk-sweeps (c .before .before .before .if1 .left) (c .before .walk .ensures) (c .swept-in .ensures)
+returns-2 c =
+    let n = c .before .before in
+    let w = n .before .before in
+    let e = w .before .before in
+    let s = e .before .before in
+    walk-sweeps (s .pre .0) (s .args .w) (s .args .t) _ (omega (arith, s .pre .0 .reach-range, s .pre .1)) (e .if1 .left) (w .before .source .ensures .0) (w .with .ensures) (n .nothing .ensures) (c .before .walk .ensures)
+    (c .swept-in .ensures)
 
 pub sweep-spec : {M : Type 1} → statement M
-sweep-spec = tie.close (tie.spec returns walk-requires swept-in-requires returns-2)
+sweep-spec =
+    tie.close
+    (tie.spec
+    returns
+    (λ c κs. search needs)
+    (search needs)
+    (λ c κs. search needs)
+    (λ c κs. search needs)
+    (λ c κs. search needs)
+    (λ c κs. search needs)
+    returns-2)

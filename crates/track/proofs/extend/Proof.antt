@@ -18,8 +18,8 @@ add-r-2 c = search needs
 
 returns : tie.Need-returns
 returns c =
-    let s = c .before .before .before .before .before .before in
-    fit-onward (s .args .t) (s .pre .0) (s .args .k) (s .args .a) (s .pre .1) (s .pre .2)
+    let s = c .before .before .before .before in
+    fit-onward (s .args .t) (s .pre .0) (s .args .k) (s .args .metres) (s .args .e) _ (s .pre .1) (s .pre .2) (c .joined .ensures)
 
 pub extend-spec : {M : Type 1} → statement M
-extend-spec = tie.close (tie.spec cast-at element-write-r add-r add-r-2 returns)
+extend-spec = tie.close (tie.spec cast-at element-write-r add-r add-r-2 (λ c κs. search needs) returns)

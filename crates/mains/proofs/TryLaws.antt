@@ -1,0 +1,96 @@
+-- A main is tried by the least key of its standbys: below the bound that the best pair sets, the least key makes the best pair; else the best pair stays. Assumes nothing.
+use mathlib.Core.Path.{_≡_, refl, sym, ap, _∙_, subst}
+use mathlib.Core.Logic.{_↔_}
+use mathlib.Core.Bool.{Bool, true, false}
+use mathlib.Core.List.{List, [], _∷_, foldl}
+use Prim.Native.Nat.{ℕ, _+_, _≤_, _<_, min}
+use native.Mathlib.Omega.{arith}
+use lib.Dec.{leb, ltb}
+use borrow.Author.Tests.{leb-true, ltb-true, ltb-false}
+use Rattle.laws.specs.Choosing.{if_then_else_}
+use Rattle.problem.specs.Table.{mostShared, mostReach}
+use Rattle.problem.specs.Exposures.{sharing}
+use Rattle.problem.specs.Routes.{Mesh, paths}
+use Rattle.problem.proofs.ExposureLaws.{sharing-le}
+use Rattle.keys.specs.Keys.{standbyKey, OfStandby, pairKey, boundFor, pairOf}
+use Rattle.keys.proofs.BoundLaws.{pairOf-key, bound-better, pairs-better}
+use Rattle.net.specs.declared.Behind.{Behind}
+use Rattle.net.specs.Search.{start, along, visit, searchedAll}
+use Rattle.standby.specs.Standby.{offered, leastKey}
+use Rattle.mains.specs.Mains.{paired, bestWith}
+
+module _ (m : Mesh) (main : Behind) (best : ℕ) (near : m .reach ≤ mostReach) (xs : main .metres ≤ mostReach) where
+  abbrev x : ℕ
+  x = main .metres
+
+  -- the least key of the standbys so far, and the best pair's key so far
+  pub data Beside (key pair : ℕ) : Type 0 where
+    kept : key ≡ boundFor best x → pair ≡ best → Beside key pair
+    better : (n y : ℕ) → n ≤ mostShared → y ≤ m .reach → key ≡ standbyKey n y → pair ≡ pairKey n (x + y) x → key < boundFor best x → Beside key pair
+
+  -- one more standby
+  step : (n y key pair : ℕ) → n ≤ mostShared → y ≤ m .reach → Beside key pair → Beside (min key (standbyKey n y)) (min pair (pairKey n (x + y) x))
+  step n y key pair ns ys (kept e f) = go (ltb (standbyKey n y) (boundFor best x)) refl
+    where
+      both : (standbyKey n y < boundFor best x) ↔ (pairKey n (x + y) x < best)
+      both = bound-better x n y xs (omega arith) best
+
+      go : (b : Bool) → ltb (standbyKey n y) (boundFor best x) ≡ b → Beside (min key (standbyKey n y)) (min pair (pairKey n (x + y) x))
+      go true g = let l = ltb-true _ _ g in let h = both .0 l in better n y ns ys (omega arith) (omega arith) (omega arith)
+      go false g =
+          let l = ltb-false (standbyKey n y) (boundFor best x) g in
+          let no : pairKey n (x + y) x < best → ⊥ = λ h. omega (arith, both .1 h) in
+          kept (omega arith) (omega (arith, no))
+  step n y key pair ns ys (better n′ y′ ns′ ys′ e f b) = go (ltb (standbyKey n y) (standbyKey n′ y′)) refl
+    where
+      both : (standbyKey n y < standbyKey n′ y′) ↔ (pairKey n (x + y) x < pairKey n′ (x + y′) x)
+      both = pairs-better x n′ y′ xs (omega arith) n y (omega arith)
+
+      go : (c : Bool) → ltb (standbyKey n y) (standbyKey n′ y′) ≡ c → Beside (min key (standbyKey n y)) (min pair (pairKey n (x + y) x))
+      go true g = let l = ltb-true _ _ g in let h = both .0 l in better n y ns ys (omega arith) (omega arith) (omega arith)
+      go false g =
+          let l = ltb-false (standbyKey n y) (standbyKey n′ y′) g in
+          let no : pairKey n (x + y) x < pairKey n′ (x + y′) x → ⊥ = λ h. omega (arith, both .1 h) in
+          let k : min key (standbyKey n y) ≡ key = omega arith in
+          better n′ y′ ns′ ys′ (k ∙ e) (omega (arith, no)) (omega arith)
+
+  -- a standby at whose end this lies behind
+  offered-beside : (key pair : ℕ) (s : Behind) → Beside key pair → Beside (offered m (main .exposure) key s) (paired m main pair s)
+  unfolding offered paired
+  offered-beside key pair s b = go (leb (s .metres) (m .reach)) refl
+    where
+      shared : ℕ
+      shared = sharing (main .exposure) (s .exposure)
+
+      go : (c : Bool) → leb (s .metres) (m .reach) ≡ c
+          → Beside (if c then min key (standbyKey shared (s .metres)) else key) (if c then min pair (pairKey shared (x + s .metres) x) else pair)
+      go true e = step (sharing (main .exposure) (s .exposure)) (s .metres) key pair (sharing-le (main .exposure) (s .exposure)) (leb-true _ _ e) b
+      go false e = b
+
+  beside-fold : (key pair : ℕ) (l : List (List ℕ)) → Beside key pair
+      → Beside (foldl (visit (m .arcs) (offered m (main .exposure)) (start m)) key l) (foldl (visit (m .arcs) (paired m main) (start m)) pair l)
+  beside-fold key pair [] b = b
+  beside-fold key pair (ks ∷ l) b = beside-fold _ _ l (offered-beside key pair (along (m .arcs) (start m) ks) b)
+
+  -- all of them
+  pub beside-all : {bound key : ℕ} → bound ≡ boundFor best x → key ≡ leastKey m (main .exposure) bound → Beside key (bestWith m main best)
+  unfolding bestWith
+  beside-all {bound} {key} e h =
+      subst (λ (k : ℕ). Beside k (searchedAll m (paired m main) best)) (sym (h ∙ ap (leastKey m (main .exposure)) e)) (beside-fold (boundFor best x) best (paths m) (kept refl refl))
+
+  -- a key below the bound can be made a pair's, and is the best's
+  pub record Made (key pair : ℕ) : Type 0 where
+    pub of-standby : OfStandby key
+    pub is : pairOf x key ≡ pair
+
+  pub beside-made : {key pair : ℕ} → Beside key pair → key < boundFor best x → Made key pair
+  beside-made (kept e f) l = absurd (omega arith)
+  beside-made (better n y ns ys e f b) l =
+      record {
+        of-standby = record { shared = n; metres = y; shared-range = ns; metres-range = omega arith; is = e };
+        is = ap (pairOf x) e ∙ pairOf-key x n y xs (omega arith) ∙ sym f;
+      }
+
+  pub beside-kept : {key pair : ℕ} → Beside key pair → boundFor best x ≤ key → pair ≡ best
+  beside-kept (kept e f) l = f
+  beside-kept (better n y ns ys e f b) l = absurd (omega arith)

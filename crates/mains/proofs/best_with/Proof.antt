@@ -1,0 +1,36 @@
+-- `mains::best_with` meets its contract: the least key of the standbys stands beside the best pair's key; below the bound it makes the
+-- pair, else the best stays. Assumes nothing.
+use mathlib.Core.Path.{sym, _∙_}
+use native.Mathlib.Omega.{arith}
+use Rattle.net.specs.Net.{meshIn}
+use Rattle.mains.specs.Mains.{bestWith}
+use Rattle.mains.proofs.TryLaws.{Beside, beside-all, beside-made, beside-kept}
+use borrow.Author.Needs.{needs}
+use Rattle.mains.proofs.best_with.Statement.{statement}
+use Rattle.mains.proofs.best_with.Tie as tie
+
+-- after the search
+beside : (k : tie.After-best-key) → let s = k .before .before .before in
+    Beside (meshIn (s .args .net .now)) (s .args .main) (s .args .best) (s .pre .0 .reach-range) (s .pre .1) (k .best-key .result) (bestWith (meshIn (s .args .net .now)) (s .args .main) (s .args .best))
+beside k = let s = k .before .before .before in beside-all _ _ (s .args .best) _ (s .pre .1) (k .before .bound-for .ensures) (k .best-key .ensures)
+
+pair-of-requires : tie.Need-pair-of-requires
+pair-of-requires c κs =
+    let k = c .before in
+    let s = k .before .before .before in
+    (s .pre .1, beside-made _ _ (s .args .best) _ (s .pre .1) (beside k) (omega (arith, c .if1 .taken, k .before .bound-for .ensures)) .of-standby)
+
+returns : tie.Need-returns
+returns c =
+    let k = c .before .before in
+    let s = k .before .before .before in
+    c .pair-of .ensures ∙ beside-made _ _ (s .args .best) _ (s .pre .1) (beside k) (omega (arith, c .before .if1 .taken, k .before .bound-for .ensures)) .is
+
+returns-2 : tie.Need-returns-2
+returns-2 c =
+    let k = c .before in
+    let s = k .before .before .before in
+    sym (beside-kept _ _ (s .args .best) _ (s .pre .1) (beside k) (omega (arith, c .if1 .left, k .before .bound-for .ensures)))
+
+pub best-with-spec : {M : Type 1} → statement M
+best-with-spec = tie.close (tie.spec (λ c κs. search needs) (λ c κs. search needs) pair-of-requires returns returns-2)

@@ -1,0 +1,36 @@
+-- `mains::try_main` meets its contract: each return is one case of `tried`, by the tests that led there. Assumes nothing.
+use mathlib.Core.Path.{_≡_, ap, _∙_}
+use mathlib.Core.Bool.{false}
+use Prim.Native.Nat.{ℕ, _<_}
+use borrow.Author.Tests.{le-leb, lt-leb}
+use borrow.Author.Needs.{needs}
+use Rattle.problem.specs.Routes.{Mesh}
+use Rattle.net.specs.declared.Behind.{Behind}
+use Rattle.tally.specs.declared.Tally.{Tally}
+use Rattle.tally.specs.Tally.{counted}
+use Rattle.mains.specs.Mains.{bestWith, tried}
+use Rattle.mains.proofs.try_main.Statement.{statement}
+use Rattle.mains.proofs.try_main.Tie as tie
+
+returns : tie.Need-returns
+unfolding tried
+returns c = rw (c .if1 .taken, tried)
+
+returns-2 : tie.Need-returns-2
+unfolding tried
+returns-2 c = rw (c .before .before .if1 .left, le-leb _ _ (c .if2 .taken), tried)
+
+-- a main that is counted
+more : (m : Mesh) (cap : ℕ) (main : Behind) (t : Tally) {best : ℕ} {r : Tally} → t .over ≡ false → t .ranked < cap → best ≡ bestWith m main (t .best) → r ≡ counted (main .metres) best t
+    → r ≡ tried m cap main t
+unfolding tried counted
+more m cap main t o h b e = rw (o, lt-leb cap (t .ranked) h) (e ∙ ap (λ (x : ℕ). counted (main .metres) x t) b)
+
+returns-3 : tie.Need-returns-3
+returns-3 c =
+    let e = c .before .before in
+    let s = e .before .before .before .before in
+    more _ (s .args .cap) (s .args .main) (s .args .t) (e .before .before .if1 .left) (e .if2 .left) (c .before .best-with .ensures) (c .one-more .ensures)
+
+pub try-main-spec : {M : Type 1} → statement M
+try-main-spec = tie.close (tie.spec returns returns-2 (λ c κs. search needs) (λ c κs. search needs) returns-3)

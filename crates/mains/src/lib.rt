@@ -1,0 +1,41 @@
+// A route tried as a main: with every standby, and counted in the tally. What is a pair, and what makes one better, is said here and not where routes are walked.
+use net::Behind;
+use tally::Tally;
+ghost use mathlib.Core.Path.{_≡_};
+ghost use Prim.Native.Nat.{_≤_};
+ghost use Rattle.problem.specs.Table.{mostReach};
+ghost use Rattle.net.specs.Net.{Net, meshIn};
+ghost use Rattle.mains.specs.Mains.{bestWith, tried};
+
+// The key of the best pair after a main, at whose end `main` lies behind, was tried with every standby.
+fn best_with(net: &[u64], main: Behind, best: u64) -> u64
+    requires { ⌜ Net (now net) × (main .metres ≤ mostReach) ⌝ }
+    ensures { λ r. ⌜ r ≡ bestWith (meshIn (now (net .entry))) main best ⌝ }
+{
+    let bound = keys::bound_for(best, main.metres);
+    let key = standby::best_key(net, main.exposure, bound);
+    if key < bound {
+        return keys::pair_of(main.metres, key);
+    }
+    best
+}
+
+// The tally after one more main; past the cap it only says that there was one more.
+pub fn try_main(net: &[u64], cap: u64, main: Behind, t: Tally) -> Tally
+    requires { ⌜ Net (now net) × (main .metres ≤ mostReach) ⌝ }
+    ensures { λ r. ⌜ r ≡ tried (meshIn (now (net .entry))) cap main t ⌝ }
+{
+    if t.over {
+        return t;
+    }
+    if cap <= t.ranked {
+        return Tally {
+            ranked: t.ranked,
+            last: t.last,
+            best: t.best,
+            over: true,
+        };
+    }
+    let best = best_with(net, main, t.best);
+    tally::one_more(main.metres, best, t)
+}

@@ -1,0 +1,74 @@
+// What plans a call whose checks have passed: from the table and the request to the floor and the pair, or to no route at all.
+use choose::Choice;
+use problem::Request;
+use side::Side;
+ghost use mathlib.Core.Path.{_≡_};
+ghost use mathlib.Core.Bool.{false};
+ghost use Prim.Native.Nat.{_<_};
+ghost use lib.ListN.{length};
+ghost use Rattle.problem.specs.Table.{arcsOf};
+ghost use Rattle.problem.specs.Exposures.{toNothing};
+ghost use Rattle.problem.specs.Routes.{ranking};
+ghost use Rattle.problem.specs.Reply.{meshOf, Checked};
+ghost use Rattle.side.specs.Side.{SideTable};
+ghost use Rattle.planner.specs.Planner.{Planned};
+
+// What planning makes of a call: whether there is a route, the floor, and what else a reply says.
+pub struct Made {
+    pub found: bool,
+    pub floor: u8,
+    pub choice: Choice,
+}
+
+fn nothing() -> Made
+    ensures { λ r. ⌜ r .found ≡ false ⌝ }
+{
+    Made {
+        found: false,
+        floor: 0,
+        choice: Choice {
+            verdict: 0,
+            ranked: 0,
+            main: track::empty(),
+            standby: track::empty(),
+        },
+    }
+}
+
+// Plans where there is a route. `side` is the side table with nothing banned.
+fn make(table: &[u8], q: Request, side: Side) -> Made
+    requires { ⌜ Checked (now table) q ⌝ }
+    requires { ⌜ SideTable (arcsOf (now table)) (q .terminal) toNothing side ⌝ }
+    requires { ⌜ 0 < length (ranking (meshOf (now table) q)) ⌝ }
+    ensures { λ r. ⌜ Planned (ranking (meshOf (now (table .entry)) q)) (q .allowance) r ⌝ }
+{
+    let allowance = q.allowance as u64;
+    let common = floor::common_exposure(table, q, side);
+    let floor = exposure::size(common);
+    // The first fill is never read; a value whose bytes differ makes it a few vector stores in a loop, where 0 would be a call of memset.
+    let mut net = [layout::FAR; net::SIZE];
+    layout::lay_out(&mut net, table, q, side);
+    let run = plan::plan(&net, allowance, floor);
+    let choice = choose::choose(&net, allowance, run);
+    Made {
+        found: true,
+        floor: floor as u8,
+        choice: choice,
+    }
+}
+
+// Plans a call whose checks have passed. There is a route exactly where the shortest way fits the reach.
+pub fn plan_checked(table: &[u8], q: Request) -> Made
+    requires { ⌜ Checked (now table) q ⌝ }
+    ensures { λ r. ⌜ Planned (ranking (meshOf (now (table .entry)) q)) (q .allowance) r ⌝ }
+{
+    let side = side::side_table(table, q.terminal as u8, exposure::nothing());
+    let entry = side.entries[q.source as usize];
+    if !entry.reached {
+        return nothing();
+    }
+    if q.reach < entry.metres {
+        return nothing();
+    }
+    make(table, q, side)
+}

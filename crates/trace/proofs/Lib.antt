@@ -1,2 +1,0 @@
-pub mod TraceLaws
-pub mod OutcomeLaws
