@@ -4,6 +4,16 @@
 //   generate random NODES ARCS COUNT ALLOWANCE   a request on each of COUNT random meshes
 //   generate ducts COUNT 1 | 0                   a request on each of COUNT random meshes of 16 nodes, with ducts at the door or without
 //
+// and the meshes of the trade, on which risks crowd: a request on each of COUNT meshes of 32 nodes, with 40 risks beside the ducts
+//
+//   generate crowded PLACE DUCTS COUNT           128 arcs; all but one of so many ducts on each arc at PLACE: door, before, ends
+//   generate rivers RIVERS DUCTS MEAN COUNT      128 arcs; so many rivers to cross, all but one of so many ducts on each arc over one;
+//                                                on average MEAN other risks an arc
+//   generate ring COUNT                          126 arcs; a ring of 30 nodes, then three parallel arcs with two of three ducts each, then
+//                                                three to the terminal
+//   generate cables PARALLEL COUNT               31 hops one behind the other, so many parallel cables each, one of 64 risks a cable
+//   generate exposed COUNT                       128 arcs; 64 risks, on average 8 an arc
+//
 // Lengths and risks are those of document 000, section 3.4.1: an arc costs 1/b with b even, drawn from four ranges by one of three
 // distributions (its Table 4); its risks are drawn uniformly. The cost is brought to whole metres, 2,000,000 divided by b.
 #include "cases.h"
@@ -123,10 +133,112 @@ void ducts(int count, bool at_the_door) {
     }
 }
 
+// ---- the meshes of the trade: 32 nodes, and as a rule 128 arcs and 1,000 mains
+
+const int NODES = 32;
+const size_t TRADE_SPANS = 64;
+const uint32_t TRADE_ALLOWANCE = 1000;
+
+// `ducts` ducts, the last of them risk `top`; arc after arc lies in all of them but one, each in turn: any two arcs share some, and none is on all
+struct Ducts {
+    int ducts, top, turn = 0;
+    uint64_t next() {
+        uint64_t all = (1ull << ducts) - 1, left_out = 1ull << turn++ % ducts;
+        return (all & ~left_out) << (top - ducts + 1);
+    }
+};
+
+int tail_of(const std::vector<uint8_t> &table, size_t at) { return table[at]; }
+int head_of(const std::vector<uint8_t> &table, size_t at) { return table[at + 1]; }
+
+// puts ducts on each arc that is among the chosen
+template <class Chosen>
+void lay_ducts(std::vector<uint8_t> &table, Ducts ducts, Chosen chosen) {
+    for (size_t at = 0; at < table.size(); at += RECORD)
+        if (chosen(tail_of(table, at), head_of(table, at))) {
+            uint64_t risks = number(&table[at + 8], 8) | ducts.next();
+            for (int i = 0; i < 8; i++) table[at + 8 + i] = risks >> 8 * i & 255;
+        }
+}
+
+// Ducts into the terminal, into its neighbours, or out of the source and into the terminal.
+void crowded(const std::string &place, int ducts, int count) {
+    for (int seed = 0; seed < count; seed++) {
+        Dice dice{uint64_t(40000 + seed)};
+        auto table = random_table(dice, random_spans(dice, NODES, TRADE_SPANS), seed % DISTRIBUTIONS, 40, 1);
+        const int source = 0, terminal = NODES / 2;
+        bool near[NODES] = {};
+        for (size_t at = 0; at < table.size(); at += RECORD) near[tail_of(table, at)] |= head_of(table, at) == terminal;
+        if (place == "before") lay_ducts(table, {ducts, 63}, [&](int tail, int head) { return near[head] && tail != terminal; });
+        else lay_ducts(table, {ducts, 63}, [&](int, int head) { return head == terminal; });
+        if (place == "ends") lay_ducts(table, {ducts, 59}, [&](int tail, int) { return tail == source; });
+        write_case({source, terminal, NO_REACH_LIMIT, TRADE_ALLOWANCE, table}, stdout);
+    }
+}
+
+// Strips of land, each as wide as the next, with a river between two of them: every route from the first to the last strip crosses all.
+void rivers(int rivers, int ducts, uint32_t mean, int count) {
+    const int strip = NODES / (rivers + 1);
+    for (int seed = 0; seed < count; seed++) {
+        Dice dice{uint64_t(41000 + 100 * rivers + seed)};
+        Spans spans;
+        for (int v = 0; v + 1 < NODES; v++) spans.push_back({v, v + 1});
+        while (spans.size() < TRADE_SPANS) {
+            int a = dice.below(NODES), b = dice.below(NODES);
+            auto joins = [&](std::pair<int, int> s) { return s == std::pair(a, b) || s == std::pair(b, a); };
+            if (a != b && abs(a / strip - b / strip) < 2 && std::none_of(spans.begin(), spans.end(), joins)) spans.push_back({a, b});
+        }
+        auto table = random_table(dice, spans, seed % DISTRIBUTIONS, 40, mean);
+        for (int river = 0; river < rivers; river++)
+            lay_ducts(table, {ducts, 63 - ducts * river}, [&](int tail, int head) { return std::min(tail, head) / strip == river && std::max(tail, head) / strip == river + 1; });
+        write_case({0, NODES - 1, NO_REACH_LIMIT, TRADE_ALLOWANCE, table}, stdout);
+    }
+}
+
+// A ring with chords; from the node opposite the source three parallel arcs in ducts, and three more to the terminal.
+void ring(int count) {
+    const int ring = NODES - 2, gate = ring, terminal = ring + 1;
+    for (int seed = 0; seed < count; seed++) {
+        Dice dice{uint64_t(42000 + seed)};
+        auto table = random_table(dice, random_spans(dice, ring, 2 * ring), seed % DISTRIBUTIONS, 40, 1);
+        Ducts ducts{3, 63};
+        for (int i = 0; i < 3; i++) put_arc(table, ring / 2, gate, random_metres(dice, seed % DISTRIBUTIONS), ducts.next());
+        for (int i = 0; i < 3; i++) put_arc(table, gate, terminal, random_metres(dice, seed % DISTRIBUTIONS), 1ull << (40 + i));
+        write_case({0, uint32_t(terminal), NO_REACH_LIMIT, 1, table}, stdout);
+    }
+}
+
+// A chain of buildings with parallel cables from each to the next.
+void cables(int parallel, int count) {
+    for (int seed = 0; seed < count; seed++) {
+        Dice dice{uint64_t(43000 + seed)};
+        std::vector<uint8_t> table;
+        for (int v = 0; v + 1 < NODES; v++)
+            for (int i = 0; i < parallel; i++) {
+                uint32_t metres = random_metres(dice, seed % DISTRIBUTIONS);
+                put_arc(table, v, v + 1, metres, 1ull << dice.below(64));
+            }
+        write_case({0, NODES - 1, NO_REACH_LIMIT, 1, table}, stdout);
+    }
+}
+
+void exposed(int count) {
+    for (int seed = 0; seed < count; seed++) {
+        Dice dice{uint64_t(44000 + seed)};
+        auto table = random_table(dice, random_spans(dice, NODES, TRADE_SPANS), seed % DISTRIBUTIONS, 64, 8);
+        write_case({0, NODES / 2, NO_REACH_LIMIT, TRADE_ALLOWANCE, table}, stdout);
+    }
+}
+
 int main(int, char **words) {
     std::string kind = words[1];
     auto word = [&](int i) { return atoi(words[i]); };
     if (kind == "reference") reference(word(2), word(3));
     if (kind == "random") random_meshes(word(2), word(3), word(4), word(5));
     if (kind == "ducts") ducts(word(2), word(3));
+    if (kind == "crowded") crowded(words[2], word(3), word(4));
+    if (kind == "rivers") rivers(word(2), word(3), word(4), word(5));
+    if (kind == "ring") ring(word(2));
+    if (kind == "cables") cables(word(2), word(3));
+    if (kind == "exposed") exposed(word(2));
 }

@@ -115,10 +115,41 @@ fn further() -> Vec<Worked> {
     ]
 }
 
+/// The smallest meshes known on which a wrong short cut in the search finds a wrong pair, each named by the short cut.
+fn short_cuts() -> Vec<Worked> {
+    let on = |name, mesh: &str, terminal, allowance, said| {
+        worked(name, &from_paper(mesh), request(0, terminal, 10_000, allowance), said)
+    };
+    vec![
+        on(
+            "partial routes compared by how many risks they share",
+            "0: 0,1,2,{0}; 1: 0,1,3,{1}; 2: 1,2,5,{1}",
+            2,
+            2,
+            "settled; main [0,2]; standby [1,2]; shared 1; floor 1; ranked 2; total 15",
+        ),
+        on(
+            "a bound compared by its count alone",
+            "0: 0,1,2,{0}; 1: 0,2,3,{0,1,3}; 2: 0,2,5,{0,1}",
+            2,
+            1_000,
+            "settled; main [1]; standby [2]; shared 2; floor 2; ranked 2; total 8",
+        ),
+        on(
+            "one shared risk too few asked for, where the length could still win",
+            "0: 0,1,4,{1}; 1: 0,1,1,{0,1,2,3}; 2: 0,1,2,{0,1,2}; 3: 0,1,2,{0,3}",
+            1,
+            2,
+            "stopped; main [2]; standby [3]; shared 1; floor 0; ranked 2; total 4",
+        ),
+    ]
+}
+
 pub fn all() -> Vec<Worked> {
     let mut rows = meshes();
     rows.extend(limits());
     rows.extend(further());
+    rows.extend(short_cuts());
     rows
 }
 

@@ -1,7 +1,9 @@
-//! What the compared cases were: counted from the cases themselves, so that the counts printed are real.
+//! What the compared cases were: counted from the cases themselves, so that the counts printed are real. Only the
+//! trade's shapes are told by the draw.
 
 use crate::listing::{faults, Answer, Plan};
 use crate::mesh::{Case, ARC_BYTES};
+use crate::trade::{Shape, SHAPES};
 
 #[derive(Default)]
 pub struct Counts {
@@ -21,12 +23,19 @@ pub struct Counts {
     allowance_at_n: usize,
     reach_at_a_length: usize,
     sharing_over_floor: usize,
+    /// Meshes drawn in the trade's shapes, and those of each that were planned.
+    drawn_shapes: usize,
+    planned_shapes: [usize; SHAPES.len()],
 }
 
 impl Counts {
-    /// Counts a case, or an input that is none (number 12).
-    pub fn add(&mut self, case: Option<&Case>, answer: &Answer) {
+    /// Counts a case, or an input that is none (number 12), and the trade's shape that it was drawn in, if any.
+    pub fn add(&mut self, case: Option<&Case>, shape: Option<Shape>, answer: &Answer) {
         self.numbers[answer.number() as usize] += 1;
+        if let Some(shape) = shape {
+            self.drawn_shapes += 1;
+            self.planned_shapes[shape as usize] += usize::from(matches!(answer, Answer::Planned(..)));
+        }
         if let Some(case) = case {
             self.add_case(case);
             if let Answer::Planned(plan, reply) = answer {
@@ -81,5 +90,8 @@ impl Counts {
             "  allowance at J {}, one below J {}, at N {}; reach at a route's length {}",
             self.allowance_at_j, self.allowance_below_j, self.allowance_at_n, self.reach_at_a_length
         );
+        let named = SHAPES.iter().zip(self.planned_shapes);
+        let planned: Vec<String> = named.map(|((_, name), count)| format!("{name} {count}")).collect();
+        println!("  shapes of the trade {}; planned of them: {}", self.drawn_shapes, planned.join(", "));
     }
 }

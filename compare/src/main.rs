@@ -14,6 +14,7 @@ mod difference;
 mod listing;
 mod mesh;
 mod random;
+mod trade;
 
 use ask::Given;
 use counts::Counts;
@@ -23,6 +24,7 @@ use mesh::Case;
 use random::Dice;
 use std::process::exit;
 use std::time::Instant;
+use trade::Shape;
 
 /// One input in so many is handed to the program in pieces.
 const SLOW_EVERY: usize = 200;
@@ -65,15 +67,16 @@ fn expected_of(case: &Case, answer: &Answer) -> Given {
 
 fn compare_calls(count: u64, seed: u64, command: &[String]) -> bool {
     let mut dice = Dice::new(seed);
-    let mut all: Vec<Case> = cases::all().into_iter().map(|row| row.case).collect();
+    let mut all: Vec<(Case, Option<Shape>)> = cases::all().into_iter().map(|row| (row.case, None)).collect();
     all.extend((0..count).map(|_| random::case(&mut dice)));
+    let (all, shapes): (Vec<Case>, Vec<Option<Shape>>) = all.into_iter().unzip();
 
     let answers = ask::driver(command, &all);
     let mut counts = Counts::default();
     let mut differing = Vec::new();
     for (place, case) in all.iter().enumerate() {
         let answer = answer(case);
-        counts.add(Some(case), &answer);
+        counts.add(Some(case), shapes[place], &answer);
         if answers.given.get(place) != Some(&expected_of(case, &answer)) {
             differing.push(place);
         }
@@ -103,11 +106,11 @@ fn show_call(command: &[String], case: &Case) {
 // ---- Texts ----
 
 /// The cases of 01 that can be put to the program, then random inputs.
-fn inputs(count: u64, dice: &mut Dice) -> Vec<Vec<u8>> {
-    let mut all: Vec<Vec<u8>> = cases::all().iter().filter_map(|row| row.case.input()).collect();
-    all.extend(cases::all_texts().into_iter().map(|row| row.input));
-    all.extend((0..count).map(|_| random::input(dice)));
-    all
+fn inputs(count: u64, dice: &mut Dice) -> Vec<(Vec<u8>, Option<Shape>)> {
+    let mut worked: Vec<Vec<u8>> = cases::all().iter().filter_map(|row| row.case.input()).collect();
+    worked.extend(cases::all_texts().into_iter().map(|row| row.input));
+    let drawn = (0..count).map(|_| random::input(dice));
+    worked.into_iter().map(|input| (input, None)).chain(drawn).collect()
 }
 
 fn compare_texts(count: u64, seed: u64, command: &[String]) -> bool {
@@ -115,9 +118,9 @@ fn compare_texts(count: u64, seed: u64, command: &[String]) -> bool {
     let mut counts = Counts::default();
     let mut differing = Vec::new();
     let (mut timed, mut seconds) = (0, 0.0);
-    for (place, input) in all.iter().enumerate() {
+    for (place, (input, shape)) in all.iter().enumerate() {
         let answer = answer_to_input(input);
-        counts.add(case_of_input(input).as_ref(), &answer);
+        counts.add(case_of_input(input).as_ref(), *shape, &answer);
         let slowly = place % SLOW_EVERY == 0;
         let started = Instant::now();
         if ask::program(command, input, slowly) != printed(&answer) {
@@ -136,7 +139,7 @@ fn compare_texts(count: u64, seed: u64, command: &[String]) -> bool {
     );
     counts.print();
     if let Some(&first) = differing.first() {
-        show_text(command, &all[first]);
+        show_text(command, &all[first].0);
     }
     differing.is_empty()
 }

@@ -3,7 +3,10 @@
 
 use crate::listing::{ranking_within, Plan, Route, ALLOWANCE_MAX, METRES_MAX, REACH_MAX, REPLY_BYTES, TABLE_BYTES_MAX};
 use crate::mesh::{arcs_of, table_bytes, Arc, Case, Request, ARC_BYTES};
+use crate::trade::{Shape, SHAPES};
 
+/// So many meshes in a hundred have one of the trade's shapes.
+const TRADE_PERCENT: usize = 25;
 const ARCS_MAX: usize = TABLE_BYTES_MAX / ARC_BYTES;
 /// A mesh with more routes than this, or more arcs to look at in listing them, loses an arc.
 const FEW: Listable = Listable { routes: 300, patience: 5_000 };
@@ -32,19 +35,19 @@ impl Dice {
         z ^ (z >> 31)
     }
 
-    fn below(&mut self, bound: usize) -> usize {
+    pub fn below(&mut self, bound: usize) -> usize {
         (self.roll() % bound as u64) as usize
     }
 
-    fn between(&mut self, low: usize, high: usize) -> usize {
+    pub fn between(&mut self, low: usize, high: usize) -> usize {
         low + self.below(high - low + 1)
     }
 
-    fn percent(&mut self, chance: usize) -> bool {
+    pub fn percent(&mut self, chance: usize) -> bool {
         self.below(100) < chance
     }
 
-    fn pick<T: Copy>(&mut self, from: &[T]) -> T {
+    pub fn pick<T: Copy>(&mut self, from: &[T]) -> T {
         from[self.below(from.len())]
     }
 
@@ -57,9 +60,9 @@ impl Dice {
 
 // ---- The shape of a mesh: the ends of its arcs, source 0 and terminal 1 ----
 
-type Ends = Vec<(u8, u8)>;
+pub type Ends = Vec<(u8, u8)>;
 
-fn two_nodes(dice: &mut Dice, nodes: usize) -> (u8, u8) {
+pub fn two_nodes(dice: &mut Dice, nodes: usize) -> (u8, u8) {
     let tail = dice.below(nodes);
     let head = (tail + dice.between(1, nodes - 1)) % nodes;
     (tail as u8, head as u8)
@@ -100,7 +103,7 @@ fn full(dice: &mut Dice) -> Ends {
 }
 
 /// The nodes of a chain from the source to the terminal with `between` nodes on its way.
-fn chain(between: usize) -> Vec<u8> {
+pub fn chain(between: usize) -> Vec<u8> {
     let mut nodes = vec![0];
     nodes.extend((0..between).map(|i| i as u8 + 2));
     nodes.push(1);
@@ -224,22 +227,36 @@ fn make_listable(dice: &mut Dice, arcs: &mut Vec<Arc>, request: &Request) -> Vec
 
 // ---- A sound case ----
 
-fn mesh(dice: &mut Dice) -> (Vec<Arc>, u32, u32) {
-    let ends = match dice.below(16) {
+fn any_ends(dice: &mut Dice) -> Ends {
+    match dice.below(16) {
         0..=4 => scattered(dice),
         5..=8 => spans(dice),
         9..=10 => full(dice),
         11..=12 => parallel(dice),
         13 => long(dice),
         _ => crowded(dice),
+    }
+}
+
+fn mesh(dice: &mut Dice, shape: Option<Shape>) -> (Vec<Arc>, u32, u32) {
+    let ends = match shape {
+        None => any_ends(dice),
+        Some(shape) => shape.ends(dice),
     };
     let mut arcs: Vec<Arc> =
         ends.iter().map(|&(tail, head)| Arc { tail, head, spare: 0, metres: 0, risks: 0 }).collect();
     arcs.truncate(ARCS_MAX);
     lengths(dice, &mut arcs);
-    risks(dice, &mut arcs);
+    match shape {
+        None => risks(dice, &mut arcs),
+        Some(shape) => shape.risks(dice, &mut arcs),
+    }
     if dice.percent(50) {
         pair_directions(&mut arcs);
+    }
+    if let Some(shape) = shape {
+        // The two directions of a span need not lie in the same ducts.
+        shape.lay_ducts(dice, &mut arcs);
     }
     if dice.percent(50) {
         dice.shuffle(&mut arcs);
@@ -296,9 +313,9 @@ fn reply_len(dice: &mut Dice) -> usize {
 }
 
 /// A case with no fault; it may have no route.
-fn sound(dice: &mut Dice) -> Case {
+fn sound(dice: &mut Dice, shape: Option<Shape>) -> Case {
     loop {
-        let (mut arcs, source, terminal) = mesh(dice);
+        let (mut arcs, source, terminal) = mesh(dice, shape);
         let mut request = Request { source, terminal, reach: REACH_MAX, allowance: ALLOWANCE_MAX };
         let mut ranking = make_listable(dice, &mut arcs, &request);
         request.reach = reach(dice, &ranking);
@@ -387,19 +404,22 @@ fn damage(dice: &mut Dice, case: &mut Case) {
 
 // ---- What is compared ----
 
-pub fn case(dice: &mut Dice) -> Case {
-    let mut case = sound(dice);
+/// A case, and the trade's shape that its mesh was drawn in, if any.
+pub fn case(dice: &mut Dice) -> (Case, Option<Shape>) {
+    let shape = if dice.percent(TRADE_PERCENT) { Some(dice.pick(&SHAPES).0) } else { None };
+    let mut case = sound(dice, shape);
     if dice.percent(25) {
         damage(dice, &mut case);
     }
-    case
+    (case, shape)
 }
 
 /// An input of the program: a case, now and then with damage that only an input can have.
-pub fn input(dice: &mut Dice) -> Vec<u8> {
-    let mut input = loop {
-        if let Some(input) = case(dice).input() {
-            break input;
+pub fn input(dice: &mut Dice) -> (Vec<u8>, Option<Shape>) {
+    let (mut input, shape) = loop {
+        let (case, shape) = case(dice);
+        if let Some(input) = case.input() {
+            break (input, shape);
         }
     };
     if dice.percent(4) {
@@ -407,5 +427,5 @@ pub fn input(dice: &mut Dice) -> Vec<u8> {
     } else if dice.percent(8) {
         input[dice.pick(&[2, 3, 12, 13, 14, 15])] = dice.pick(&[1, 128, 255]);
     }
-    input
+    (input, shape)
 }

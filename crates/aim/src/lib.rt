@@ -226,11 +226,17 @@ fn before(cur: u64, end: u64, width: u64) -> u64
     laws::smaller(width, end - 1 - cur)
 }
 
-// Narrows the next window where the allowance is likely to end within it: to the lengths before its end, and then to that one length.
+// Narrows the next window, if there is one, where the allowance is likely to end within it: to the lengths before its end, and then to that one length.
 pub fn take_aim(net: &[u64], allowance: u64, ranked: u64, cur: u64, width: u64, end: u64) -> Aim
-    requires { ⌜ Net (now net) × (ranked ≤ allowance) × (allowance ≤ mostAllowance) × (cur ≤ meshIn (now net) .reach) × (width ≤ mostReach) ⌝ }
+    requires { ⌜ Net (now net) × (ranked ≤ allowance) × (allowance ≤ mostAllowance) × (width ≤ mostReach) ⌝ }
     ensures { λ r. ⌜ r .width ≤ width ⌝ }
 {
+    if net::reach(net) < cur {
+        return Aim {
+            width: width,
+            end: end,
+        };
+    }
     if end < NO_LENGTH {
         return Aim {
             width: before(cur, end, width),

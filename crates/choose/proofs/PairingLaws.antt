@@ -1,25 +1,29 @@
 -- What is looked for by a key's numbers, and that what is found is the best pair of every step that has the key. Assumes nothing.
 use mathlib.Core.Path.{_≡_, sym, ap, ap₂, _∙_, subst}
-use mathlib.Core.Bool.{true, false}
+use mathlib.Core.Bool.{true, false, true≢false}
 use Prim.Native.Nat.{ℕ, _+_, _≤_, _<_}
 use native.Mathlib.Omega.{arith}
 use lib.ListN.{length, getD}
+use borrow.Author.Tests.{eqb-true}
 use Rattle.laws.specs.Choosing.{keep}
 use Rattle.problem.specs.declared.Exposure.{Exposure}
-use Rattle.problem.specs.Table.{mostReach}
+use Rattle.problem.specs.Table.{lastNode, mostReach}
 use Rattle.problem.specs.Exposures.{toNothing}
-use Rattle.problem.specs.Routes.{Mesh, paths, Route, routeOf, ranking, count, shorter}
+use Rattle.problem.specs.Routes.{Mesh, exposureOf, paths, Route, routeOf, ranking, count, shorter}
 use Rattle.problem.specs.Pairs.{Pair, pair, noRoute, sharedCount, every, best}
+use Rattle.problem.proofs.RankingLaws.{LowHeads}
 use Rattle.keys.specs.Keys.{standbyKey, sharedOf, totalOf, mainOf, noStandby}
 use Rattle.keys.proofs.BoundLaws.{standby-below}
 use Rattle.keys.proofs.ChoiceLaws.{pairKey-parts}
+use Rattle.standby.specs.Standby.{leastKey}
+use Rattle.standby.proofs.LeastLaws.{least-below}
 use Rattle.track.specs.Track.{routeIn, pairIn}
 use Rattle.find.specs.declared.Want.{Want}
 use Rattle.find.specs.declared.Found.{Found}
-use Rattle.find.specs.Find.{First, countOf, soughtIn, InRange, Outcome}
+use Rattle.find.specs.Find.{isWanted, First, countOf, soughtIn, InRange, Sure, Outcome}
 use Rattle.choose.specs.declared.Numbers.{Numbers}
 use Rattle.choose.specs.Choose.{Readable, ReadOff, OfStep, BestOf}
-use Rattle.choose.proofs.RouteChoice.{asLong, x-range, y-range, n-range, best-key, asMain, asStandby, main-somewhere, standby-somewhere, best-is-pair, place, main-place, main-early}
+use Rattle.choose.proofs.RouteChoice.{asLong, within-reach, standby-in, x-range, y-range, n-range, best-key, asMain, asStandby, main-somewhere, standby-somewhere, best-is-pair, place, main-place, main-early}
 
 -- ---- the numbers read off a key
 
@@ -70,6 +74,10 @@ module _ {key : ℕ} (n : Numbers) (off : ReadOff key n) where
     pub standby-in-range : (e : Exposure) → InRange (wantStandby e)
     standby-in-range e = record { metres-range = omega (arith, standby-read, r .standby-range); key-range = key-small }
 
+  -- of a main nothing need be sure
+  pub sure-main : (m : Mesh) (e : Exposure) → Sure m (wantMain e)
+  sure-main m e = record { in-reach = λ z. absurd (true≢false z); least = λ z. absurd (true≢false z) }
+
   -- ---- what is found
 
   module _ (m : Mesh) (near : m .reach ≤ mostReach) {j : ℕ} (o : OfStep (ranking m) key j) where
@@ -83,7 +91,7 @@ module _ {key : ℕ} (n : Numbers) (off : ReadOff key n) where
         made : ℕ → ℕ → Exposure → Want
         made x y z = record { metres = x; key = y; main = z; as_main = true }
 
-    module _ {e : Exposure} (none : e ≡ toNothing) (u : Found) (of-main : Outcome m (wantMain e) (paths m) (soughtIn u)) where
+    module _ (heads : LowHeads (m .arcs)) (node : m .source ≤ lastNode) {e : Exposure} (none : e ≡ toNothing) (u : Found) (of-main : Outcome m (wantMain e) (paths m) (soughtIn u)) where
       -- the main was found
       record MainFound : Type 0 where
         first : First m (asMain m near o) (paths m)
@@ -109,10 +117,21 @@ module _ {key : ℕ} (n : Numbers) (off : ReadOff key n) where
           made : ℕ → ℕ → Exposure → Want
           made x y z = record { metres = x; key = y; main = z; as_main = false }
 
-      module _ (s : Found) (of-standby : Outcome m (wantStandby (u .track .exposure)) (paths m) (soughtIn s)) where
+      -- the main passed its test: no standby of it, and no way, has a smaller key
+      sure-standby : Sure m (asStandby m near o f)
+      unfolding isWanted routeOf
+      sure-standby = record {
+        in-reach = λ z. within-reach m near (standby-in m near o);
+        least = λ z. least-below m heads node _ (best-standby-key + 1) (eqb-true (leastKey m (exposureOf (m .arcs) (f .ks)) (best-standby-key + 1)) best-standby-key (f .passes));
+      }
+        where
+          best-standby-key : ℕ
+          best-standby-key = standbyKey (sharedCount b) (b .standby .metres)
+
+      module _ (s : Found) (of-standby : Sure m (wantStandby (u .track .exposure)) → Outcome m (wantStandby (u .track .exposure)) (paths m) (soughtIn s)) where
         -- the two routes are the best pair
         pair-found : pairIn (u .track) (s .track) ≡ b
-        pair-found = go (subst (λ (w : Want). Outcome m w (paths m) (soughtIn s)) same-standby of-standby)
+        pair-found = go (subst (λ (w : Want). Outcome m w (paths m) (soughtIn s)) same-standby (of-standby (subst (λ (w : Want). Sure m w) (sym same-standby) sure-standby)))
           where
             go : Outcome m (asStandby m near o f) (paths m) (soughtIn s) → pairIn (u .track) (s .track) ≡ b
             go (Outcome.first g a p r) = ap₂ (λ (x y : Route). pair x y) (main-found .route-is) r ∙ sym (best-is-pair m near o f g)

@@ -116,7 +116,7 @@ module _ (m : Mesh) (near : m .reach ≤ mostReach) where
     main-in : List·Memᴰ (b .main) routes
     main-in = best-main every routes j some
 
-    standby-in : List·Memᴰ (b .standby) routes
+    pub standby-in : List·Memᴰ (b .standby) routes
     standby-in = best-in every routes j some .standby-in
 
     pub x-range : x ≤ mostReach

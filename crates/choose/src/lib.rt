@@ -9,6 +9,7 @@ ghost use Prim.Native.Nat.{_≤_};
 ghost use Rattle.problem.specs.Table.{mostAllowance};
 ghost use Rattle.problem.specs.Routes.{count, shorter};
 ghost use Rattle.net.specs.Net.{Net, meshIn, routesIn};
+ghost use Rattle.cores.specs.Cores.{Stored};
 ghost use Rattle.plan.specs.declared.Run.the-variants.{ByLength};
 ghost use Rattle.plan.specs.Plan.{Ended};
 ghost use Rattle.choose.specs.Choose.{Chosen, Readable, ReadOff, ByKey, AsRanked, stepBy, Halved};
@@ -26,8 +27,9 @@ pub struct Choice {
 }
 
 // How many routes are shorter than so many metres: a sweep in which no pair can get better.
-fn count_shorter(net: &[u64], metres: u64, cap: u64) -> u64
+fn count_shorter(net: &[u64], store: &mut [u64], metres: u64, cap: u64) -> u64
     requires { ⌜ Net (now net) × (metres ≤ meshIn (now net) .reach) × (count (shorter metres) (routesIn (now net)) ≤ cap) ⌝ }
+    requires { ⌜ Stored (now net) (now store) ⌝ }
     ensures { λ r. ⌜ r ≡ count (shorter metres) (routesIn (now (net .entry))) ⌝ }
 {
     if metres == 0 {
@@ -44,7 +46,7 @@ fn count_shorter(net: &[u64], metres: u64, cap: u64) -> u64
         best: 0,
         over: false,
     };
-    let s = sweep::sweep(net, w, t);
+    let s = sweep::sweep(net, store, w, t);
     let u = s.tally;
     u.ranked
 }
@@ -77,13 +79,15 @@ struct Pairing {
 }
 
 // The pair whose key is `best`: the first main of its length, in depth-first order, that makes such a pair, and the first standby that makes it with that main.
-fn pair_by(net: &[u64], best: u64) -> Pairing
-    requires { ⌜ Net (now net) × Readable best ⌝ }
-    ensures { λ r. ⌜ ByKey (routesIn (now (net .entry))) best r ⌝ }
+fn pair_by(net: &[u64], store: &mut [u64], best: u64) -> Pairing
+    requires { ⌜ Net (now net) × Readable best × Stored (now net) (now store) ⌝ }
+    ensures pair { λ r. ⌜ ByKey (routesIn (now (net .entry))) best r ⌝ }
+    ensures stored { λ _. ⌜ Stored (now (net .entry)) (now (store .exit)) ⌝ }
 {
     let n = read_off(best);
     let m = find::first_route(
         net,
+        store,
         Want {
             metres: n.main,
             key: n.key,
@@ -95,6 +99,7 @@ fn pair_by(net: &[u64], best: u64) -> Pairing
     let exposure = main.exposure;
     let s = find::first_route(
         net,
+        store,
         Want {
             metres: n.standby,
             key: n.key,
@@ -111,12 +116,19 @@ fn pair_by(net: &[u64], best: u64) -> Pairing
 }
 
 // The step that a settled reply ranks: the routes shorter than half the total and one more, or the main's own place where the main is as long.
-fn settled_step(net: &[u64], allowance: u64, main: u64, total: u64, passed: u64) -> u64
-    requires { ⌜ Net (now net) × Halved (now net) allowance main total passed ⌝ }
+fn settled_step(
+    net: &[u64],
+    store: &mut [u64],
+    allowance: u64,
+    main: u64,
+    total: u64,
+    passed: u64,
+) -> u64
+    requires { ⌜ Net (now net) × Halved (now net) allowance main total passed × Stored (now net) (now store) ⌝ }
     ensures { λ r. ⌜ r ≡ stepBy (routesIn (now (net .entry))) main total passed ⌝ }
 {
     let half = (total + 1) / 2;
-    let shorter = count_shorter(net, half, allowance);
+    let shorter = count_shorter(net, store, half, allowance);
     if main == half {
         return shorter + passed + 1;
     }
@@ -124,15 +136,15 @@ fn settled_step(net: &[u64], allowance: u64, main: u64, total: u64, passed: u64)
 }
 
 // The reply of a run that ended settled by length: what is ranked is the step that settles, not where the run ended.
-fn settled(net: &[u64], allowance: u64, t: Tally) -> Choice
-    requires { ⌜ Net (now net) × (allowance ≤ mostAllowance) × Ended (now net) allowance (ByLength t) ⌝ }
+fn settled(net: &[u64], store: &mut [u64], allowance: u64, t: Tally) -> Choice
+    requires { ⌜ Net (now net) × (allowance ≤ mostAllowance) × Ended (now net) allowance (ByLength t) × Stored (now net) (now store) ⌝ }
     ensures { λ r. ⌜ Chosen (routesIn (now (net .entry))) allowance r ⌝ }
 {
-    let p = pair_by(net, t.best);
+    let p = pair_by(net, store, t.best);
     let main = p.main;
     let standby = p.standby;
     let total = main.metres as u64 + standby.metres as u64;
-    let step = settled_step(net, allowance, main.metres as u64, total, p.passed);
+    let step = settled_step(net, store, allowance, main.metres as u64, total, p.passed);
     Choice {
         verdict: SETTLED,
         ranked: step as u32,
@@ -142,11 +154,11 @@ fn settled(net: &[u64], allowance: u64, t: Tally) -> Choice
 }
 
 // The reply of a run that ranked no more than it replies.
-fn as_ranked(net: &[u64], allowance: u64, t: Tally, verdict: u8) -> Choice
-    requires { ⌜ Net (now net) × (allowance ≤ mostAllowance) × AsRanked (routesIn (now net)) allowance t verdict ⌝ }
+fn as_ranked(net: &[u64], store: &mut [u64], allowance: u64, t: Tally, verdict: u8) -> Choice
+    requires { ⌜ Net (now net) × (allowance ≤ mostAllowance) × AsRanked (routesIn (now net)) allowance t verdict × Stored (now net) (now store) ⌝ }
     ensures { λ r. ⌜ Chosen (routesIn (now (net .entry))) allowance r ⌝ }
 {
-    let p = pair_by(net, t.best);
+    let p = pair_by(net, store, t.best);
     let main = p.main;
     let standby = p.standby;
     Choice {
@@ -158,13 +170,13 @@ fn as_ranked(net: &[u64], allowance: u64, t: Tally, verdict: u8) -> Choice
 }
 
 // The pair's routes, the number ranked and the verdict, from the end of a run.
-pub fn choose(net: &[u64], allowance: u64, run: Run) -> Choice
-    requires { ⌜ Net (now net) × (allowance ≤ mostAllowance) × Ended (now net) allowance run ⌝ }
+pub fn choose(net: &[u64], store: &mut [u64], allowance: u64, run: Run) -> Choice
+    requires { ⌜ Net (now net) × (allowance ≤ mostAllowance) × Ended (now net) allowance run × Stored (now net) (now store) ⌝ }
     ensures { λ r. ⌜ Chosen (routesIn (now (net .entry))) allowance r ⌝ }
 {
     match run {
-        Run::ByLength(t) => settled(net, allowance, t),
-        Run::AllRanked(t) => as_ranked(net, allowance, t, SETTLED),
-        Run::AtAllowance(t) => as_ranked(net, allowance, t, STOPPED),
+        Run::ByLength(t) => settled(net, store, allowance, t),
+        Run::AllRanked(t) => as_ranked(net, store, allowance, t, SETTLED),
+        Run::AtAllowance(t) => as_ranked(net, store, allowance, t, STOPPED),
     }
 }

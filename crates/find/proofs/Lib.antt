@@ -1,2 +1,3 @@
+pub mod TrailLaws
 pub mod SeekLaws
 pub mod OutcomeLaws

@@ -1,4 +1,4 @@
--- What a search from the source finds: the first list of the wanted length that passes, and how many of that length stand before it. Assumes nothing.
+-- What a search from the source finds: the first list of the wanted length that passes, and, of mains, how many of that length stand before it. Assumes nothing.
 use mathlib.Core.Path.{_≡_, refl, sym, ap, _∙_}
 use mathlib.Core.Logic.{_⊎_, inl, inr}
 use mathlib.Core.Bool.{Bool, true, false}
@@ -9,7 +9,7 @@ use native.Mathlib.Omega.{arith}
 use lib.Dec.{eqb}
 use lib.ListN.{length}
 use borrow.Author.Tests.{eqb-true, eqb-false}
-use Rattle.laws.specs.Choosing.{keep}
+use Rattle.laws.specs.Choosing.{if_then_else_, keep}
 use Rattle.laws.specs.Sets.{with, unmet}
 use Rattle.problem.specs.declared.Arc.{Arc}
 use Rattle.problem.specs.declared.Exposure.{Exposure}
@@ -27,8 +27,9 @@ use Rattle.track.specs.declared.Track.{Track}
 use Rattle.track.specs.Track.{routeIn, Holds}
 use Rattle.track.proofs.FitLaws.{fit-count}
 use Rattle.find.specs.declared.Want.{Want}
-use Rattle.find.specs.Find.{isWanted, InRange, Sought, along, meet, seek, soughtFrom, countOf, NonePasses, First, Outcome, Finding}
-use Rattle.find.proofs.SeekLaws.{along-is, meet-found, meet-other, meet-wanted, meet-passed}
+use Rattle.find.specs.Find.{isWanted, InRange, Sought, along, meet, seek, soughtFrom, countOf, NonePasses, First, passedIn, Outcome, Finding}
+use Rattle.find.proofs.TrailLaws.{trail-start}
+use Rattle.find.proofs.SeekLaws.{along-is, meet-found, meet-other, meet-standby, meet-wanted, meet-passed}
 
 -- ---- a search over a whole list
 
@@ -36,29 +37,23 @@ module _ (m : Mesh) (w : Want) where
   abbrev arcs : List Arc
   arcs = m .arcs
 
-  abbrev metres : ℕ
-  metres = w .metres
-
-  abbrev test : Exposure → Bool
-  test = isWanted m w
-
   abbrev asLong : List ℕ → Bool
-  asLong ks = eqb (metresOf arcs ks) metres
+  asLong ks = eqb (metresOf arcs ks) (w .metres)
 
   abbrev Passes : List ℕ → Type 0
-  Passes ks = (metresOf arcs ks ≡ metres) × (test (exposureOf arcs ks) ≡ true)
+  Passes ks = (metresOf arcs ks ≡ w .metres) × (isWanted m w (exposureOf arcs ks) ≡ true)
 
   abbrev Fails : List ℕ → Type 0
-  Fails ks = metresOf arcs ks ≡ metres → test (exposureOf arcs ks) ≡ false
+  Fails ks = metresOf arcs ks ≡ w .metres → isWanted m w (exposureOf arcs ks) ≡ false
 
   -- a list passes, or, if it has the wanted length, fails
   decide : (ks : List ℕ) → Passes ks ⊎ Fails ks
-  decide ks = go (eqb (metresOf arcs ks) metres) refl (test (exposureOf arcs ks)) refl
+  decide ks = go (eqb (metresOf arcs ks) (w .metres)) refl (isWanted m w (exposureOf arcs ks)) refl
     where
-      go : (b : Bool) → eqb (metresOf arcs ks) metres ≡ b → (c : Bool) → test (exposureOf arcs ks) ≡ c → Passes ks ⊎ Fails ks
-      go true e true f = inl (eqb-true (metresOf arcs ks) metres e, f)
+      go : (b : Bool) → eqb (metresOf arcs ks) (w .metres) ≡ b → (c : Bool) → isWanted m w (exposureOf arcs ks) ≡ c → Passes ks ⊎ Fails ks
+      go true e true f = inl (eqb-true (metresOf arcs ks) (w .metres) e, f)
       go true e false f = inr (λ x. f)
-      go false e c f = inr (λ x. absurd (eqb-false (metresOf arcs ks) metres e x))
+      go false e c f = inr (λ x. absurd (eqb-false (metresOf arcs ks) (w .metres) e x))
 
   none-more : {ks : List ℕ} {l : List (List ℕ)} → Fails ks → NonePasses m w l → NonePasses m w (ks ∷ l)
   none-more {ks} {l} f g js m = go (List·Memᴰ·cases-cons m)
@@ -79,60 +74,73 @@ module _ (m : Mesh) (w : Want) where
       go (inr p) (inr n) = inr (none-more p n)
 
   -- from the source, nothing lies behind
-  seek-all : (s : Sought) (ks : List ℕ) → seek arcs metres test noRoute s ks ≡ meet metres test s (routeOf arcs ks)
+  seek-all : (s : Sought) (ks : List ℕ) → seek m w noRoute s ks ≡ meet m w s (routeOf arcs ks)
   unfolding seek routeOf
-  seek-all s ks = ap (meet metres test s) (along-is arcs noRoute ks ∙ rw (zero-add (metresOf arcs ks), nothing-joined (exposureOf arcs ks)))
+  seek-all s ks = ap (meet m w s) (along-is arcs noRoute ks ∙ rw (zero-add (metresOf arcs ks), nothing-joined (exposureOf arcs ks)))
 
-  -- where none passes, those of the wanted length are counted, and nothing else changes
-  fold-none : (l : List (List ℕ)) (s : Sought) (p : ℕ) → s .found ≡ false → s .passed ≤ mostAllowance → NonePasses m w l → p ≡ min (s .passed + length (keep asLong l)) mostAllowance
-      → foldl (seek arcs metres test noRoute) s l ≡ record { found = false; passed = p; route = s .route }
+  -- where no main passes, those of the wanted length are counted, and nothing else changes
+  fold-mains : (l : List (List ℕ)) (s : Sought) (p : ℕ) → w .as_main ≡ true → s .found ≡ false → s .passed ≤ mostAllowance → NonePasses m w l
+      → p ≡ min (s .passed + length (keep asLong l)) mostAllowance → foldl (seek m w noRoute) s l ≡ record { found = false; passed = p; route = s .route }
   unfolding keep routeOf
-  fold-none [] s p e b n q = let same : s .passed ≡ p = omega arith in rw (← same, ← e)
-  fold-none (ks ∷ l) s p e b n q = go (eqb (metresOf arcs ks) metres) refl (fold-none l)
+  fold-mains [] s p main e b n q = let same : s .passed ≡ p = omega arith in rw (← same, ← e)
+  fold-mains (ks ∷ l) s p main e b n q = go (asLong ks) refl (fold-mains l)
     where
       none : NonePasses m w l
-      none js m = n js (List·Memᴰ·tail m)
+      none js i = n js (List·Memᴰ·tail i)
 
-      go : (c : Bool) → eqb (metresOf arcs ks) metres ≡ c
-          → ((r : Sought) (j : ℕ) → r .found ≡ false → r .passed ≤ mostAllowance → NonePasses m w l → j ≡ min (r .passed + length (keep asLong l)) mostAllowance
-          → foldl (seek arcs metres test noRoute) r l ≡ record { found = false; passed = j; route = r .route })
-          → foldl (seek arcs metres test noRoute) s (ks ∷ l) ≡ record { found = false; passed = p; route = s .route }
+      go : (c : Bool) → asLong ks ≡ c
+          → ((r : Sought) (j : ℕ) → w .as_main ≡ true → r .found ≡ false → r .passed ≤ mostAllowance → NonePasses m w l
+          → j ≡ min (r .passed + length (keep asLong l)) mostAllowance → foldl (seek m w noRoute) r l ≡ record { found = false; passed = j; route = r .route })
+          → foldl (seek m w noRoute) s (ks ∷ l) ≡ record { found = false; passed = p; route = s .route }
       go true f ih =
-          let same = eqb-true (metresOf arcs ks) metres f in
-          ap (λ (r : Sought). foldl (seek arcs metres test noRoute) r l) (seek-all s ks ∙ meet-passed metres test s (routeOf arcs ks) e same (n ks (List·Memᴰ·head refl) same) refl)
-          ∙ ih _ p refl (omega arith) none (omega (arith, rw (f, keep) at q))
+          let same = eqb-true (metresOf arcs ks) (w .metres) f in
+          ap (λ (r : Sought). foldl (seek m w noRoute) r l) (seek-all s ks ∙ meet-passed m w s (routeOf arcs ks) e same main (n ks (List·Memᴰ·head refl) same) refl)
+          ∙ ih _ p main refl (omega arith) none (omega (arith, rw (f, keep) at q))
       go false f ih =
-          ap (λ (r : Sought). foldl (seek arcs metres test noRoute) r l) (seek-all s ks ∙ meet-other metres test s (routeOf arcs ks) (eqb-false (metresOf arcs ks) metres f))
-          ∙ ih s p e b none (rw (f, keep) at q)
+          ap (λ (r : Sought). foldl (seek m w noRoute) r l) (seek-all s ks ∙ meet-other m w s (routeOf arcs ks) (eqb-false (metresOf arcs ks) (w .metres) f))
+          ∙ ih s p main e b none (rw (f, keep) at q)
+
+  -- where no standby passes, nothing changes
+  fold-standbys : (l : List (List ℕ)) (s : Sought) → w .as_main ≡ false → NonePasses m w l → foldl (seek m w noRoute) s l ≡ s
+  unfolding routeOf
+  fold-standbys l s standby n = fold-idle (seek m w noRoute) s l (λ ks i. seek-all s ks ∙ meet-standby m w s (routeOf arcs ks) standby (n ks i))
 
   -- once found, the rest is passed over
-  fold-found : (l : List (List ℕ)) (s : Sought) → s .found ≡ true → foldl (seek arcs metres test noRoute) s l ≡ s
+  fold-found : (l : List (List ℕ)) (s : Sought) → s .found ≡ true → foldl (seek m w noRoute) s l ≡ s
   unfolding seek
-  fold-found l s e = fold-idle (seek arcs metres test noRoute) s l (λ ks m. meet-found metres test s (along arcs noRoute ks) e)
+  fold-found l s e = fold-idle (seek m w noRoute) s l (λ ks i. meet-found m w s (along arcs noRoute ks) e)
+
+  -- where a search begins
+  abbrev begin : Sought
+  begin = record { found = false; passed = 0; route = noRoute }
+
+  fold-none : (l : List (List ℕ)) → NonePasses m w l → foldl (seek m w noRoute) begin l ≡ record { found = false; passed = passedIn m w l; route = noRoute }
+  fold-none l n = go (w .as_main) refl
+    where
+      go : (b : Bool) → w .as_main ≡ b → foldl (seek m w noRoute) begin l ≡ record { found = false; passed = if b then countOf arcs (w .metres) l else 0; route = noRoute }
+      go true e = fold-mains l begin (countOf arcs (w .metres) l) e refl (omega arith) n (omega arith)
+      go false e = fold-standbys l begin e n
 
   -- a search over all of a list, from the start
-  pub fold-outcome : (all : List (List ℕ)) → Outcome m w all (foldl (seek arcs metres test noRoute) (record { found = false; passed = 0; route = noRoute }) all)
+  pub fold-outcome : (all : List (List ℕ)) → Outcome m w all (foldl (seek m w noRoute) (record { found = false; passed = 0; route = noRoute }) all)
   unfolding routeOf
   fold-outcome all = go (first-or-none all)
     where
-      s : Sought
-      s = record { found = false; passed = 0; route = noRoute }
-
       end : List (List ℕ) → Sought
-      end l = foldl (seek arcs metres test noRoute) s l
+      end l = foldl (seek m w noRoute) begin l
 
-      found : (f : First m w all) → end all ≡ record { found = true; passed = countOf arcs metres (f .before); route = routeOf arcs (f .ks) }
+      found : (f : First m w all) → end all ≡ record { found = true; passed = passedIn m w (f .before); route = routeOf arcs (f .ks) }
       found f =
           ap end (f .place)
-          ∙ foldl-append (seek arcs metres test noRoute) s (f .before) (f .ks ∷ f .after)
-          ∙ ap (λ (r : Sought). foldl (seek arcs metres test noRoute) r (f .ks ∷ f .after)) (fold-none (f .before) s (countOf arcs metres (f .before)) refl (omega arith) (f .none-before) (omega arith))
-          ∙ ap (λ (r : Sought). foldl (seek arcs metres test noRoute) r (f .after)) (seek-all _ (f .ks) ∙ meet-wanted metres test _ (routeOf arcs (f .ks)) refl (f .length-is) (f .passes))
+          ∙ foldl-append (seek m w noRoute) begin (f .before) (f .ks ∷ f .after)
+          ∙ ap (λ (r : Sought). foldl (seek m w noRoute) r (f .ks ∷ f .after)) (fold-none (f .before) (f .none-before))
+          ∙ ap (λ (r : Sought). foldl (seek m w noRoute) r (f .after)) (seek-all _ (f .ks) ∙ meet-wanted m w _ (routeOf arcs (f .ks)) refl (f .length-is) (f .passes))
           ∙ fold-found (f .after) _ refl
 
       go : First m w all ⊎ NonePasses m w all → Outcome m w all (end all)
       go (inl f) = Outcome.first f (ap (λ (r : Sought). r .found) (found f)) (ap (λ (r : Sought). r .passed) (found f)) (ap (λ (r : Sought). r .route) (found f))
       go (inr n) =
-          let none = fold-none all s (countOf arcs metres all) refl (omega arith) n (omega arith) in
+          let none = fold-none all n in
           Outcome.nowhere n (ap (λ (r : Sought). r .found) none) (ap (λ (r : Sought). r .passed) none) (ap (λ (r : Sought). r .route) none)
 
 -- ---- from the source
@@ -156,6 +164,7 @@ module _ (net : List ℕ) (words : Net net) where
             fit = held .fit;
             room = omega (arith, fit-count t (held .fit), ap (λ (r : Route). length (r .arcs)) (held .route), unmet-source (meshIn net .source) (words .source-node), ap (unmet 32) met-source, ap (λ (v : ℕ). unmet 32 (with 0 v)) at-source);
             not-past = omega (arith, ap (λ (r : Route). r .metres) (held .route));
+            came = trail-start (meshIn net) (w .main) at-source;
           }
 
       pub first-outcome : {r : Sought} → r ≡ soughtFrom (meshIn net) w at met (routeIn t) (record { found = false; passed = 0; route = routeIn t }) → Outcome (meshIn net) w (paths (meshIn net)) r

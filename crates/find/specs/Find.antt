@@ -1,21 +1,23 @@
--- The first route of a wanted length that passes a test, in depth-first order, and how many of that length stand before it. Assumes nothing.
+-- The first route of a wanted length that passes a test, in depth-first order, and, of mains, how many of that length stand before it. Assumes nothing.
 use Prim.Native.Nat.{ℕ, suc, _+_, _≤_, _<_, min}
 use mathlib.Core.Bool.{Bool, true, false}
 use mathlib.Core.List.{List, [], _∷_, _++_, foldl, List·Memᴰ}
 use mathlib.Core.Path.{_≡_}
-use lib.Dec.{eqb}
+use lib.Dec.{eqb, ltb}
 use lib.ListN.{length}
 use Rattle.laws.specs.Choosing.{if_then_else_, keep}
-use Rattle.laws.specs.Sets.{unmet}
+use Rattle.laws.specs.Sets.{bit, unmet}
 use Rattle.problem.specs.declared.Arc.{Arc}
 use Rattle.problem.specs.declared.Exposure.{Exposure}
 use Rattle.problem.specs.Table.{lastNode, mostArcs, mostReach, mostAllowance}
-use Rattle.problem.specs.Exposures.{ofArc, sharing}
-use Rattle.problem.specs.Routes.{Mesh, arcAt, metresOf, exposureOf, grow, Route, routeOf}
+use Rattle.problem.specs.Exposures.{exposed, ofArc, common, sharing}
+use Rattle.problem.specs.Routes.{Mesh, arcAt, metresOf, exposureOf, Way, grow, paths, Route, routeOf}
 use Rattle.problem.specs.Pairs.{noRoute}
 use Rattle.keys.specs.Keys.{standbyKey, noStandby}
-use Rattle.net.specs.Net.{meshIn, Net}
+use Rattle.net.specs.Net.{wordAt, meshIn, Net}
 use Rattle.standby.specs.Standby.{leastKey}
+use Rattle.standby.specs.Ahead.{quest, NoneBelow}
+use Rattle.standby.specs.Labels.{labelledAt, labelMetres, labelExposure, Labelled}
 use Rattle.track.specs.declared.Track.{Track}
 use Rattle.track.specs.Track.{routeIn, Fit, onward}
 use Rattle.find.specs.declared.Want.{Want}
@@ -31,14 +33,23 @@ isWanted m w route =
     then eqb (leastKey m route (w .key + 1)) (w .key)
     else eqb (standbyKey (sharing (w .main) route) (w .metres)) (w .key)
 
+-- whether what is exposed to this shares more with `main` than the key of a wanted standby says: then nothing that goes on from there is wanted
+unfoldable pub sharesTooMuch : Want → Exposure → Bool
+sharesTooMuch w e = if w .as_main then false else ltb (w .key) (standbyKey (sharing (w .main) e) 0)
+
 -- no route and no key is larger
 pub record InRange (w : Want) : Type 0 where
   pub metres-range : w .metres ≤ mostReach
   pub key-range : w .key < noStandby
 
+-- if a standby is wanted, it is of the least key that a standby of that main has, and within reach: only then may a search for it leave out what comes late
+pub record Sure (m : Mesh) (w : Want) : Type 0 where
+  pub in-reach : w .as_main ≡ false → w .metres ≤ m .reach
+  pub least : w .as_main ≡ false → NoneBelow (quest m (w .main) 0) (w .key)
+
 -- ---- what is found
 
--- the search so far: whether the route was found, how many of the wanted length came before it, and the route
+-- the search so far: whether the route was found, how many of the wanted length came before it (only mains are counted), and the route
 pub record Sought : Type 0 where
   pub found : Bool
   pub passed : ℕ
@@ -66,21 +77,31 @@ module _ (m : Mesh) (w : Want) where
     pub passes : isWanted m w (exposureOf (m .arcs) ks) ≡ true
     pub none-before : NonePasses before
 
-  -- what a search over all of them comes to: the route of the first that passes, and how many of that length stand before it; or none, after all of them
+  -- how many of the wanted length are in a list: only mains are counted
+  abbrev pub passedIn : List (List ℕ) → ℕ
+  passedIn l = if w .as_main then countOf (m .arcs) (w .metres) l else 0
+
+  -- what a search over all of them comes to: the route of the first that passes, and what passed before it; or none, after all of them
   pub data Outcome (all : List (List ℕ)) (s : Sought) : Type 0 where
-    first : (f : First all) → s .found ≡ true → s .passed ≡ countOf (m .arcs) (w .metres) (f .before) → s .route ≡ routeOf (m .arcs) (f .ks) → Outcome all s
-    nowhere : NonePasses all → s .found ≡ false → s .passed ≡ countOf (m .arcs) (w .metres) all → s .route ≡ noRoute → Outcome all s
+    first : (f : First all) → s .found ≡ true → s .passed ≡ passedIn (f .before) → s .route ≡ routeOf (m .arcs) (f .ks) → Outcome all s
+    nowhere : NonePasses all → s .found ≡ false → s .passed ≡ passedIn all → s .route ≡ noRoute → Outcome all s
+
+-- over all paths of the mesh
+abbrev pub OutcomeOverAll : Mesh → Want → Sought → Type 0
+OutcomeOverAll m w s = Outcome m w (paths m) s
 
 -- ---- the search, route by route
 
--- after one more route; once found, nothing changes
-unfoldable pub meet : ℕ → (Exposure → Bool) → Sought → Route → Sought
-meet metres test s r =
+-- after one more route: once found, nothing changes; of those that are not wanted, only mains are counted
+unfoldable pub meet : Mesh → Want → Sought → Route → Sought
+meet m w s r =
     if s .found then s
-    else (if eqb (r .metres) metres
-    then (if test (r .exposure)
+    else (if eqb (r .metres) (w .metres)
+    then (if isWanted m w (r .exposure)
     then record { found = true; passed = s .passed; route = r }
-    else record { found = false; passed = min (s .passed + 1) mostAllowance; route = s .route })
+    else (if w .as_main
+    then record { found = false; passed = min (s .passed + 1) mostAllowance; route = s .route }
+    else s))
     else s)
 
 -- the route that goes on over arc number k, which is a
@@ -93,12 +114,34 @@ along arcs r [] = r
 along arcs r (k ∷ ks) = along arcs (overArc r k (arcAt arcs k)) ks
 
 -- after one more list: `behind` lies behind, ks ahead
-unfoldable pub seek : List Arc → ℕ → (Exposure → Bool) → Route → Sought → List ℕ → Sought
-seek arcs metres test behind s ks = meet metres test s (along arcs behind ks)
+unfoldable pub seek : Mesh → Want → Route → Sought → List ℕ → Sought
+seek m w behind s ks = meet m w s (along (m .arcs) behind ks)
 
 -- after all that goes on from a node
 abbrev pub soughtFrom : Mesh → Want → (at met : ℕ) → Route → Sought → Sought
-soughtFrom m w at met behind s = foldl (seek (m .arcs) (w .metres) (isWanted m w) behind) s (grow (m .arcs) (m .terminal) (suc (unmet 32 met)) met at)
+soughtFrom m w at met behind s = foldl (seek m w behind) s (grow (m .arcs) (m .terminal) (suc (unmet 32 met)) met at)
+
+-- the same, with the track t behind it
+abbrev pub soughtOn : Mesh → Want → (at met : ℕ) → Track → Found → Sought
+soughtOn m w at met t s = soughtFrom m w at met (routeIn t) (soughtIn s)
+
+-- ---- what came to a node
+
+-- a way leads to v, no longer than this and, of what the main is exposed to, exposed to no more
+pub record Trail (m : Mesh) (main : Exposure) (v metres : ℕ) (e : Exposure) : Type 0 where
+  pub list : List ℕ
+  pub way : Way (m .arcs) (m .source) v list
+  pub no-longer : metresOf (m .arcs) list ≤ metres
+  pub no-more : (r : ℕ) → exposed (common main (exposureOf (m .arcs) list)) r ≤ exposed e r
+
+-- where a standby is wanted, each label of the store tells of such a way
+pub record Trails (m : Mesh) (w : Want) (store : List ℕ) : Type 0 where
+  pub told : w .as_main ≡ false → (v : ℕ) → v ≤ lastNode → bit (wordAt store labelledAt) v ≡ 1 → Trail m (w .main) v (labelMetres store v) (labelExposure store v)
+
+-- the store once something came to v: as it was, or with a label that tells of it
+pub data Arrived (w : Want) (v metres : ℕ) (e : Exposure) (before after : List ℕ) : Type 0 where
+  same : after ≡ before → Arrived w v metres e before after
+  labelled : Labelled v metres (common (w .main) e) before after → Arrived w v metres e before after
 
 -- ---- the code's search
 
@@ -111,3 +154,4 @@ pub record Finding (net : List ℕ) (w : Want) (at met : ℕ) (t : Track) : Type
   pub fit : Fit t
   pub room : t .count + unmet 32 met ≤ mostArcs
   pub not-past : t .metres ≤ w .metres
+  pub came : Trail (meshIn net) (w .main) at (t .metres) (t .exposure)

@@ -7,12 +7,17 @@ use native.Mathlib.Omega.{arith}
 use lib.Dec.{ltb}
 use borrow.Author.Tests.{ltb-true, ltb-false, lt-ltb, le-ltb}
 use Rattle.problem.specs.Table.{mostShared, mostReach}
-use Rattle.keys.specs.Keys.{standbyKey, OfStandby, noStandby, pairKey, sharedOf, totalOf, mainOf, boundFor, pairOf}
+use Rattle.keys.specs.Keys.{standbyKey, OfStandby, noStandby, raised, pairKey, sharedOf, totalOf, mainOf, boundFor, pairOf}
 
 -- more shared and more metres make no smaller key
 pub standbyKey-mono : {n n′ m m′ : ℕ} → n ≤ n′ → m ≤ m′ → standbyKey n m ≤ standbyKey n′ m′
 unfolding standbyKey
 standbyKey-mono h l = omega arith
+
+-- what is raised is no smaller
+pub raised-more : (bound metres : ℕ) → bound ≤ raised bound metres
+unfolding standbyKey raised
+raised-more bound metres = omega arith
 
 -- the shared count and the metres of a standby's key are in their ranges
 pub standby-parts : {key : ℕ} → OfStandby key → (key / 2 ^ 32 ≤ mostShared) × (key % 2 ^ 32 ≤ mostReach)

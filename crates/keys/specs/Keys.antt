@@ -1,5 +1,5 @@
 -- The judgement as one number, so that code compares pairs, and the standbys of one main, by one comparison. Assumes nothing.
-use Prim.Native.Nat.{ℕ, _+_, _*_, _-_, _/_, _%_, _^_, _≤_}
+use Prim.Native.Nat.{ℕ, _+_, _*_, _-_, _/_, _%_, _^_, _≤_, max}
 use mathlib.Core.Path.{_≡_}
 use lib.Dec.{ltb}
 use Rattle.laws.specs.Choosing.{if_then_else_}
@@ -21,6 +21,10 @@ pub record OfStandby (key : ℕ) : Type 0 where
 -- more than the key of any of them
 abbrev pub noStandby : ℕ
 noStandby = (mostShared + 1) * 2 ^ 32
+
+-- a bound with at least so many metres: where no standby is shorter, no key lies between the two
+unfoldable pub raised : ℕ → ℕ → ℕ
+raised bound metres = standbyKey (bound / 2 ^ 32) (max (bound % 2 ^ 32) metres)
 
 -- a pair: the judgement's first three places, shared count, total, the main's metres; a total has 27 bits, a length 26
 unfoldable pub pairKey : ℕ → ℕ → ℕ → ℕ

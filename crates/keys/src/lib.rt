@@ -2,7 +2,7 @@
 ghost use mathlib.Core.Path.{_≡_};
 ghost use Prim.Native.Nat.{_-_, _≤_, _<_, _^_};
 ghost use Rattle.problem.specs.Table.{mostReach};
-ghost use Rattle.keys.specs.Keys.{standbyKey, OfStandby, sharedOf, totalOf, mainOf, sharedRoom, boundFor, pairOf};
+ghost use Rattle.keys.specs.Keys.{standbyKey, OfStandby, raised, sharedOf, totalOf, mainOf, sharedRoom, boundFor, pairOf};
 
 const STANDBY_UNIT: u64 = 4294967296;
 
@@ -38,6 +38,14 @@ pub fn standby_key(shared: u64, metres: u64) -> u64
     ensures { λ r. ⌜ r ≡ standbyKey shared metres ⌝ }
 {
     shared * STANDBY_UNIT + metres
+}
+
+// A bound for keys of standbys of which none is shorter than so many metres.
+pub fn raised(bound: u64, metres: u64) -> u64
+    requires { ⌜ metres < 2 ^ 32 ⌝ }
+    ensures { λ r. ⌜ r ≡ raised bound metres ⌝ }
+{
+    bound / STANDBY_UNIT * STANDBY_UNIT + laws::larger(bound % STANDBY_UNIT, metres)
 }
 
 // The key of a standby as long as what is left of `top` metres.

@@ -5,15 +5,17 @@ ghost use mathlib.Core.Path.{_≡_};
 ghost use Prim.Native.Nat.{_≤_};
 ghost use Rattle.problem.specs.Table.{mostReach};
 ghost use Rattle.net.specs.Net.{Net, meshIn};
+ghost use Rattle.cores.specs.Cores.{Stored};
 ghost use Rattle.mains.specs.Mains.{bestWith, tried};
 
 // The key of the best pair after a main, at whose end `main` lies behind, was tried with every standby.
-fn best_with(net: &[u64], main: Behind, best: u64) -> u64
-    requires { ⌜ Net (now net) × (main .metres ≤ mostReach) ⌝ }
-    ensures { λ r. ⌜ r ≡ bestWith (meshIn (now (net .entry))) main best ⌝ }
+fn best_with(net: &[u64], store: &mut [u64], main: Behind, best: u64) -> u64
+    requires { ⌜ Net (now net) × (main .metres ≤ mostReach) × Stored (now net) (now store) ⌝ }
+    ensures best { λ r. ⌜ r ≡ bestWith (meshIn (now (net .entry))) main best ⌝ }
+    ensures stored { λ _. ⌜ Stored (now (net .entry)) (now (store .exit)) ⌝ }
 {
     let bound = keys::bound_for(best, main.metres);
-    let key = standby::best_key(net, main.exposure, bound);
+    let key = cores::best_key(net, store, main.exposure, bound);
     if key < bound {
         return keys::pair_of(main.metres, key);
     }
@@ -21,9 +23,10 @@ fn best_with(net: &[u64], main: Behind, best: u64) -> u64
 }
 
 // The tally after one more main; past the cap it only says that there was one more.
-pub fn try_main(net: &[u64], cap: u64, main: Behind, t: Tally) -> Tally
-    requires { ⌜ Net (now net) × (main .metres ≤ mostReach) ⌝ }
-    ensures { λ r. ⌜ r ≡ tried (meshIn (now (net .entry))) cap main t ⌝ }
+pub fn try_main(net: &[u64], store: &mut [u64], cap: u64, main: Behind, t: Tally) -> Tally
+    requires { ⌜ Net (now net) × (main .metres ≤ mostReach) × Stored (now net) (now store) ⌝ }
+    ensures tally { λ r. ⌜ r ≡ tried (meshIn (now (net .entry))) cap main t ⌝ }
+    ensures stored { λ _. ⌜ Stored (now (net .entry)) (now (store .exit)) ⌝ }
 {
     if t.over {
         return t;
@@ -36,6 +39,6 @@ pub fn try_main(net: &[u64], cap: u64, main: Behind, t: Tally) -> Tally
             over: true,
         };
     }
-    let best = best_with(net, main, t.best);
+    let best = best_with(net, store, main, t.best);
     tally::one_more(main.metres, best, t)
 }

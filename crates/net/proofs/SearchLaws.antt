@@ -103,7 +103,7 @@ module _ {S : Type 0} (net : List ℕ) (end : S → Behind → S) (b : Behind) (
     left-last i s h = left-end arcs terminal (visit arcs end b) (unmet 32 met) met at i s h
 
     module _ {i : ℕ} (place : Place i) (l : i < length arcs) where
-      next-arc : Next arcs at (i + 1) (wordAt net (nextFrom + i))
+      pub next-arc : Next arcs at (i + 1) (wordAt net (nextFrom + i))
       next-arc = subst (λ (v : ℕ). Next arcs v (i + 1) (wordAt net (nextFrom + i))) (place .here l) (words .next i l)
 
       pub place-next : Place (wordAt net (nextFrom + i))

@@ -149,14 +149,17 @@ module _ (net : List ℕ) (words : Net net) where
           width-range = h;
         }
 
-    pub going-turning : {t : Tally} {cur width less : ℕ} → Going net allowance low t cur width → cur ≤ meshIn net .reach → less ≤ width → Turning net allowance t cur less
-    going-turning g h l = record { tally-is = g .tally-is; allowed = g .allowed; cur-range = h; width-range = omega (arith, g .width-range) }
+    pub going-narrower : {t : Tally} {cur width less : ℕ} → Going net allowance low t cur width → less ≤ width → Going net allowance low t cur less
+    going-narrower g l = record { tally-is = g .tally-is; allowed = g .allowed; not-met = g .not-met; width-range = omega (arith, g .width-range) }
+
+    pub going-turning : {t : Tally} {cur width : ℕ} → Going net allowance low t cur width → cur ≤ meshIn net .reach → Turning net allowance t cur width
+    going-turning g h = record { tally-is = g .tally-is; allowed = g .allowed; cur-range = h; width-range = g .width-range }
 
     -- a turn that goes on gets further, or tries the same again with less
-    pub going-on : {t : Tally} {cur width less : ℕ} → Going net allowance low t cur width → less ≤ width → {n : Next} → Turned net allowance low t cur less (GoOn n)
-        → Going net allowance low (n .tally) (n .cur) (n .width) × ((cur < n .cur) ⊎ ((n .cur ≡ cur) × (n .width < less)))
-    going-on g l (Turned.further s a e p q) = (record { tally-is = s; allowed = a; not-met = e; width-range = q }, inl p)
-    going-on {t} {cur} g l {n} (Turned.again e p q) = (same e p, inr (p, q))
+    pub going-on : {t : Tally} {cur width : ℕ} → Going net allowance low t cur width → {n : Next} → Turned net allowance low t cur width (GoOn n)
+        → Going net allowance low (n .tally) (n .cur) (n .width) × ((cur < n .cur) ⊎ ((n .cur ≡ cur) × (n .width < width)))
+    going-on g (Turned.further s a e p q) = (record { tally-is = s; allowed = a; not-met = e; width-range = q }, inl p)
+    going-on {t} {cur} g {n} (Turned.again e p q) = (same e p, inr (p, q))
       where
         same : n .tally ≡ t → n .cur ≡ cur → Going net allowance low (n .tally) (n .cur) (n .width)
         same x y = rw (x, y) (record { tally-is = g .tally-is; allowed = g .allowed; not-met = g .not-met; width-range = omega (arith, g .width-range) })

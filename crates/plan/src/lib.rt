@@ -5,6 +5,7 @@ ghost use mathlib.Core.Path.{_≡_};
 ghost use Prim.Native.Nat.{_≤_};
 ghost use Rattle.problem.specs.Table.{mostReach, mostAllowance};
 ghost use Rattle.net.specs.Net.{Net};
+ghost use Rattle.cores.specs.Cores.{Stored};
 ghost use Rattle.mains.specs.Mains.{noTally};
 ghost use Rattle.plan.specs.Plan.{metBy, endedAt, Turning, Turned, Planning, Ended};
 
@@ -100,10 +101,31 @@ fn ended_at(u: Tally, floor: u64) -> Run
     Run::AtAllowance(t)
 }
 
+// A turn after which planning goes on from `cur`.
+fn go_on(t: Tally, cur: u64, width: u64) -> Turn
+    ensures { λ r. ⌜ r ≡ Turn.GoOn (record { tally = t; cur = cur; width = width }) ⌝ }
+{
+    let next = Next {
+        tally: t,
+        cur: cur,
+        width: width,
+    };
+    Turn::GoOn(next)
+}
+
 // One window, and what it says of how to go on.
-fn try_window(net: &[u64], allowance: u64, floor: u64, t: Tally, cur: u64, width: u64) -> Turn
-    requires { ⌜ Net (now net) × Planning (now net) allowance floor × Turning (now net) allowance t cur width ⌝ }
-    ensures { λ r. ⌜ Turned (now (net .entry)) allowance floor t cur width r ⌝ }
+fn try_window(
+    net: &[u64],
+    store: &mut [u64],
+    allowance: u64,
+    floor: u64,
+    t: Tally,
+    cur: u64,
+    width: u64,
+) -> Turn
+    requires { ⌜ Net (now net) × Planning (now net) allowance floor × Turning (now net) allowance t cur width × Stored (now net) (now store) ⌝ }
+    ensures turned { λ r. ⌜ Turned (now (net .entry)) allowance floor t cur width r ⌝ }
+    ensures stored { λ _. ⌜ Stored (now (net .entry)) (now (store .exit)) ⌝ }
 {
     let hi = laws::smaller(cur + width, net::reach(net));
     let cap = cap_for(t.ranked, allowance, hi - cur);
@@ -112,51 +134,41 @@ fn try_window(net: &[u64], allowance: u64, floor: u64, t: Tally, cur: u64, width
         hi: hi,
         cap: cap,
     };
-    let r = sweep::sweep(net, w, t);
+    let r = sweep::sweep(net, store, w, t);
     let u = r.tally;
     if !u.over {
         if is_met(u, floor) {
             return Turn::Stop(Run::ByLength(u));
         }
-        let next = Next {
-            tally: u,
-            cur: r.cut,
-            width: wider(width, t.ranked, u.ranked),
-        };
-        return Turn::GoOn(next);
+        return go_on(u, r.cut, wider(width, t.ranked, u.ranked));
     }
     if hi == cur {
         return Turn::Stop(ended_at(u, floor));
     }
-    let next = Next {
-        tally: t,
-        cur: cur,
-        width: (hi - cur) / 2,
-    };
-    Turn::GoOn(next)
+    go_on(t, cur, (hi - cur) / 2)
 }
 
 // Windows one after the other, from the shortest length on.
-pub fn plan(net: &[u64], allowance: u64, floor: u64) -> Run
-    requires { ⌜ Net (now net) × Planning (now net) allowance floor ⌝ }
-    ensures { λ r. ⌜ Ended (now (net .entry)) allowance r ⌝ }
+pub fn plan(net: &[u64], store: &mut [u64], allowance: u64, floor: u64) -> Run
+    requires { ⌜ Net (now net) × Planning (now net) allowance floor × Stored (now net) (now store) ⌝ }
+    ensures ended { λ r. ⌜ Ended (now (net .entry)) allowance r ⌝ }
+    ensures stored { λ _. ⌜ Stored (now (net .entry)) (now (store .exit)) ⌝ }
 {
     let reach = net::reach(net);
     let mut t = no_tally();
     let mut cur = net::lower(net, net::source(net));
-    let mut width = laws::smaller(cur / 8, WIDEST);
-    let mut end = net::NO_LENGTH;
+    let width = laws::smaller(cur / 8, WIDEST);
+    // Aimed at in two places, an aim is called and not built in: its array of counts is off the stack when the pair's routes are looked for.
+    let mut a = aim::take_aim(net, allowance, t.ranked, cur, width, net::NO_LENGTH);
     while cur <= reach {
-        let a = aim::take_aim(net, allowance, t.ranked, cur, width, end);
-        match try_window(net, allowance, floor, t, cur, a.width) {
+        match try_window(net, store, allowance, floor, t, cur, a.width) {
             Turn::Stop(run) => {
                 return run;
             }
             Turn::GoOn(next) => {
                 t = next.tally;
                 cur = next.cur;
-                width = next.width;
-                end = a.end;
+                a = aim::take_aim(net, allowance, t.ranked, cur, next.width, a.end);
             }
         }
     }

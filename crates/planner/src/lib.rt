@@ -48,8 +48,9 @@ fn make(table: &[u8], q: Request, side: Side) -> Made
     // The first fill is never read; a value whose bytes differ makes it a few vector stores in a loop, where 0 would be a call of memset.
     let mut net = [layout::FAR; net::SIZE];
     layout::lay_out(&mut net, table, q, side);
-    let run = plan::plan(&net, allowance, floor);
-    let choice = choose::choose(&net, allowance, run);
+    let mut store = [0; cores::OWN_WORDS];
+    let run = plan::plan(&net, &mut store, allowance, floor);
+    let choice = choose::choose(&net, &mut store, allowance, run);
     Made {
         found: true,
         floor: floor as u8,

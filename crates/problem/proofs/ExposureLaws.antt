@@ -103,6 +103,11 @@ pub sharing-mono : (a b c d : Exposure) → Inside a c → Inside b d → sharin
 unfolding sharing
 sharing-mono a b c d f g = size-mono (common a b) (common c d) (λ r. simp exposed-common (omega (arith, f r, g r)))
 
+-- of two that go on alike, the one shares no more whose part that the main shares lies inside the other
+pub sharing-part : (main a b more : Exposure) → Inside (common main a) b → sharing main (joined a more) ≤ sharing main (joined b more)
+unfolding sharing
+sharing-part main a b more f = size-mono (common main (joined a more)) (common main (joined b more)) (λ r. simp (exposed-common, exposed-joined) (omega (arith, f r, exposed-common main a r)))
+
 pub sharing-comm : (a b : Exposure) → sharing a b ≡ sharing b a
 unfolding sharing
 sharing-comm a b = ap size (exposure-ext (common a b) (common b a) (λ r. simp exposed-common (omega arith)))

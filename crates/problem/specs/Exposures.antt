@@ -1,5 +1,5 @@
--- What an arc or a route is exposed to (its risks), what two of them have in common, and how many that is. Nothing but this file and its laws
--- (proofs/ExposureLaws.antt) knows that these are risks, how many there can be, or that they are the bits of a number. Assumes nothing.
+-- What an arc or a route is exposed to (its risks), what two of them have in common, and how many that is. But for the reply's field of shared risks, nothing
+-- but this file and its laws (proofs/ExposureLaws.antt) knows that these are risks, how many there can be, or that they are the bits of a number. Assumes nothing.
 use Prim.Native.Nat.{ℕ, _-_, _^_}
 use mathlib.Core.Bool.{Bool}
 use lib.Bits.{bitAnd, bitOr}

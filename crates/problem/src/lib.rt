@@ -48,7 +48,7 @@ pub enum Fault {
 }
 
 // What an arc or a route is exposed to, and may have in common with another: its risks, bit r for risk r.
-// Only crate exposure and specs/Exposures.antt look inside.
+// Asked through crate exposure alone; net and layout hold one in a word, and the reply has the risks that two share.
 pub struct Exposure {
     pub risks: u64,
 }

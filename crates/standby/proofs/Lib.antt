@@ -1,3 +1,7 @@
 pub mod DoorLaws
 pub mod HopLaws
-pub mod StandbyLaws
+pub mod OfferLaws
+pub mod AheadLaws
+pub mod LabelLaws
+pub mod SeekLaws
+pub mod LeastLaws

@@ -1,13 +1,17 @@
-// The best standby of a main: the least key, shared count before metres, of all routes, found by a search that leaves out what cannot be better.
+// The best standby of a main: the least key, shared count before metres, of all routes, found by a search that leaves out what cannot be better: by the doors, by
+// the lower bounds, and by labels that it leaves at the nodes it has gone on from.
 use net::Behind;
 use problem::Exposure;
 ghost use mathlib.Core.Path.{_≡_};
+ghost use mathlib.Core.Bool.{true};
 ghost use Prim.Native.Nat.{_<_, _≤_};
 ghost use lib.ListN.{length};
-ghost use Rattle.problem.specs.Table.{mostShared, mostReach};
-ghost use Rattle.net.specs.Net.{Net, arcsIn, meshIn};
-ghost use Rattle.net.specs.Search.{behind, searched};
-ghost use Rattle.standby.specs.Standby.{offered, leastKey, EveryDoor, hopAt, Seeking};
+ghost use Rattle.problem.specs.Table.{lastNode, mostShared, mostReach};
+ghost use Rattle.net.specs.Net.{Net, arcsIn, meshIn, wordAt};
+ghost use Rattle.net.specs.Search.{behind};
+ghost use Rattle.standby.specs.Standby.{EveryDoor, hopAt, Seeking};
+ghost use Rattle.standby.specs.Ahead.{quest, NoneBelow, leastOf};
+ghost use Rattle.standby.specs.Labels.{workAt, labelWords, Known, Shorter, Frame, Cleared, Labelled, Sought};
 
 // An arc looked at.
 enum Hop {
@@ -79,9 +83,80 @@ fn look(
     Hop::Leads(head, on)
 }
 
-// The least of `bound` and the keys of all standbys that go on from `at` with so much behind them.
-fn least_key(
+// Where the words of the labels begin: the set of nodes that have one, the nodes gone on from, then the metres and what they are exposed to, node by node.
+const LABELLED: usize = 0;
+
+const WORK: usize = 1;
+
+const METRES_FROM: usize = 2;
+
+const EXPOSURES_FROM: usize = METRES_FROM + problem::NODES;
+
+pub const LABEL_WORDS: usize = EXPOSURES_FROM + problem::NODES * exposure::WORDS;
+
+// More work than this is not counted.
+const MOST_WORK: u64 = 4294967296;
+
+// How many nodes the last search has gone on from.
+pub fn work(store: &[u64]) -> u64
+    requires { ⌜ labelWords ≤ length (now store) ⌝ }
+    ensures { λ r. ⌜ r ≡ wordAt (now (store .entry)) workAt ⌝ }
+{
+    store[WORK]
+}
+
+// Takes all labels away.
+pub fn clear(store: &mut [u64])
+    requires { ⌜ labelWords ≤ length (now store) ⌝ }
+    ensures { λ _. ⌜ Cleared (now (store .entry)) (now (store .exit)) ⌝ }
+{
+    store[LABELLED] = 0;
+    store[WORK] = 0;
+}
+
+// Whether the label of a node is as good as this: what goes on from there was looked at with no more behind it.
+fn known(store: &[u64], v: u64, metres: u64, exposure: Exposure) -> bool
+    requires { ⌜ (labelWords ≤ length (now store)) × (v ≤ lastNode) ⌝ }
+    ensures { λ r. ⌜ (r ≡ true → Known (now (store .entry)) v metres exposure) ⌝ }
+{
+    if !sets::has(store[LABELLED], v as u8) {
+        return false;
+    }
+    let node = v as usize;
+    if metres < store[METRES_FROM + node] {
+        return false;
+    }
+    let label = exposure::read(store, EXPOSURES_FROM + node * exposure::WORDS);
+    exposure::is_inside(label, exposure)
+}
+
+// Whether the label of a node is shorter than this and exposed to no more.
+pub fn shorter_known(store: &[u64], v: u64, metres: u64, exposure: Exposure) -> bool
+    requires { ⌜ (labelWords ≤ length (now store)) × (v ≤ lastNode) ⌝ }
+    ensures { λ r. ⌜ (r ≡ true → Shorter (now (store .entry)) v metres exposure) ⌝ }
+{
+    if metres == 0 {
+        return false;
+    }
+    known(store, v, metres - 1, exposure)
+}
+
+// Labels a node.
+pub fn keep(store: &mut [u64], v: u64, metres: u64, exposure: Exposure)
+    requires { ⌜ (labelWords ≤ length (now store)) × (v ≤ lastNode) ⌝ }
+    ensures { λ _. ⌜ Labelled v metres exposure (now (store .entry)) (now (store .exit)) ⌝ }
+{
+    let node = v as usize;
+    store[WORK] = laws::sum_up_to(store[WORK], 1, MOST_WORK);
+    store[LABELLED] = sets::with(store[LABELLED], v as u8);
+    store[METRES_FROM + node] = metres;
+    exposure::put(store, EXPOSURES_FROM + node * exposure::WORDS, exposure);
+}
+
+// The least of `bound` and the keys of the standbys that go on from `at` with so much behind them, but for those that a label or a node behind makes needless.
+fn seek(
     net: &[u64],
+    store: &mut [u64],
     main: Exposure,
     door: u64,
     at: u64,
@@ -90,8 +165,8 @@ fn least_key(
     exposure: Exposure,
     bound: u64,
 ) -> u64
-    requires { ⌜ Seeking (now net) main door at metres ⌝ }
-    ensures { λ r. ⌜ r ≡ searched (meshIn (now (net .entry))) (offered (meshIn (now (net .entry))) main) (behind met metres exposure) at bound ⌝ }
+    requires { ⌜ Seeking (now net) main door at metres × (labelWords ≤ length (now store)) ⌝ }
+    ensures { λ r. ⌜ Sought (now (net .entry)) main at (behind met metres exposure) bound (now (store .entry)) (now (store .exit)) r ⌝ }
 {
     let n = net::arc_count(net);
     let mut least = bound;
@@ -105,20 +180,46 @@ fn least_key(
                 least = key;
             }
             Hop::Leads(head, on) => {
-                least = least_key(net, main, door, head, on.met, on.metres, on.exposure, least);
+                if !known(store, head, on.metres, on.exposure) {
+                    least = seek(
+                        net,
+                        store,
+                        main,
+                        door,
+                        head,
+                        on.met,
+                        on.metres,
+                        on.exposure,
+                        least,
+                    );
+                }
             }
         }
     }
+    keep(store, at, metres, exposure::common(main, exposure));
     least
 }
 
-// The least of `bound` and the keys of all standbys of a main that is exposed to this.
-pub fn best_key(net: &[u64], main: Exposure, bound: u64) -> u64
-    requires { ⌜ Net (now net) ⌝ }
-    ensures { λ r. ⌜ r ≡ leastKey (meshIn (now (net .entry))) main bound ⌝ }
+// The least of `bound` and the keys of all standbys of a main that is exposed to this, that meet none of these nodes. What the store held does not matter.
+pub fn search(net: &[u64], store: &mut [u64], main: Exposure, nodes: u64, bound: u64) -> u64
+    requires { ⌜ Net (now net) × (labelWords ≤ length (now store)) ⌝ }
+    ensures least { λ r. ⌜ r ≡ leastOf (quest (meshIn (now (net .entry))) main nodes) bound ⌝ }
+    ensures below { λ r. ⌜ NoneBelow (quest (meshIn (now (net .entry))) main nodes) r ⌝ }
+    ensures frame { λ _. ⌜ Frame (now (store .entry)) (now (store .exit)) ⌝ }
 {
+    clear(store);
     let source = net::source(net);
-    let met = sets::with(0, source as u8);
+    let met = sets::with(nodes, source as u8);
     let door = door(net, main);
-    least_key(net, main, door, source, met, 0, exposure::nothing(), bound)
+    seek(
+        net,
+        store,
+        main,
+        door,
+        source,
+        met,
+        0,
+        exposure::nothing(),
+        bound,
+    )
 }

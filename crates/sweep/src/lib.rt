@@ -11,6 +11,7 @@ ghost use lib.ListN.{length};
 ghost use Rattle.problem.specs.Table.{mostReach};
 ghost use Rattle.net.specs.Net.{Net, wordAt, meshIn};
 ghost use Rattle.net.specs.Search.{behind};
+ghost use Rattle.cores.specs.Cores.{Stored};
 ghost use Rattle.sweep.specs.Sweep.{ended, Sweeping, SweptAll};
 ghost use Rattle.sweep.specs.Run.{runSize, hiAt, sweptIn, UnderWay, Cuts, Meets, Walks};
 
@@ -28,14 +29,15 @@ pub struct Swept {
 }
 
 // The tally after a route ended within the window's end, with `route` behind it.
-fn end_route(net: &[u64], w: Window, route: Behind, t: Tally) -> Tally
-    requires { ⌜ Net (now net) × (route .metres ≤ mostReach) ⌝ }
-    ensures { λ r. ⌜ r ≡ ended (meshIn (now (net .entry))) w route t ⌝ }
+fn end_route(net: &[u64], store: &mut [u64], w: Window, route: Behind, t: Tally) -> Tally
+    requires { ⌜ Net (now net) × (route .metres ≤ mostReach) × Stored (now net) (now store) ⌝ }
+    ensures ended { λ r. ⌜ r ≡ ended (meshIn (now (net .entry))) w route t ⌝ }
+    ensures stored { λ _. ⌜ Stored (now (net .entry)) (now (store .exit)) ⌝ }
 {
     if route.metres < w.lo {
         return t;
     }
-    mains::try_main(net, w.cap, route, t)
+    mains::try_main(net, store, w.cap, route, t)
 }
 
 // A sweep under way in words, the window, the tally and the cut, so that one reference is handed on from call to call and no struct is copied.
@@ -78,9 +80,10 @@ fn cut_at(run: &mut [u64; RUN_WORDS], to: u64)
 }
 
 // A route ended within the window's end, with `route` behind it.
-fn meet_route(net: &[u64], run: &mut [u64; RUN_WORDS], route: Behind)
-    requires { ⌜ Net (now net) × (route .metres ≤ mostReach) × UnderWay (now run) ⌝ }
-    ensures { λ _. ⌜ Meets (meshIn (now (net .entry))) route (now (run .entry)) (now (run .exit)) ⌝ }
+fn meet_route(net: &[u64], run: &mut [u64; RUN_WORDS], store: &mut [u64], route: Behind)
+    requires { ⌜ Net (now net) × (route .metres ≤ mostReach) × UnderWay (now run) × Stored (now net) (now store) ⌝ }
+    ensures meets { λ _. ⌜ Meets (meshIn (now (net .entry))) route (now (run .entry)) (now (run .exit)) ⌝ }
+    ensures stored { λ _. ⌜ Stored (now (net .entry)) (now (store .exit)) ⌝ }
 {
     let w = Window {
         lo: run[LO],
@@ -93,7 +96,7 @@ fn meet_route(net: &[u64], run: &mut [u64; RUN_WORDS], route: Behind)
         best: run[BEST],
         over: false,
     };
-    let u = end_route(net, w, route, t);
+    let u = end_route(net, store, w, route, t);
     run[RANKED] = u.ranked;
     run[LAST] = u.last;
     run[BEST] = u.best;
@@ -101,9 +104,18 @@ fn meet_route(net: &[u64], run: &mut [u64; RUN_WORDS], route: Behind)
 }
 
 // The sweep of what grows from `at`. Only a route's end passes the cap, so `over` is read after one and after a walk, and not at each arc.
-fn walk(net: &[u64], run: &mut [u64; RUN_WORDS], at: u64, met: u64, metres: u64, exposure: Exposure)
-    requires { ⌜ Sweeping (now net) (wordAt (now run) hiAt) at metres × UnderWay (now run) ⌝ }
-    ensures { λ _. ⌜ Walks (now (net .entry)) at (behind met metres exposure) (now (run .entry)) (now (run .exit)) ⌝ }
+fn walk(
+    net: &[u64],
+    run: &mut [u64; RUN_WORDS],
+    store: &mut [u64],
+    at: u64,
+    met: u64,
+    metres: u64,
+    exposure: Exposure,
+)
+    requires { ⌜ Sweeping (now net) (wordAt (now run) hiAt) at metres × UnderWay (now run) × Stored (now net) (now store) ⌝ }
+    ensures walks { λ _. ⌜ Walks (now (net .entry)) at (behind met metres exposure) (now (run .entry)) (now (run .exit)) ⌝ }
+    ensures stored { λ _. ⌜ Stored (now (net .entry)) (now (store .exit)) ⌝ }
 {
     let mut i = net::first(net, at);
     while i < net::arc_count(net) {
@@ -115,13 +127,13 @@ fn walk(net: &[u64], run: &mut [u64; RUN_WORDS], at: u64, met: u64, metres: u64,
                 cut_at(run, to);
             }
             Leg::Ends(route) => {
-                meet_route(net, run, route);
+                meet_route(net, run, store, route);
                 if 0 < run[OVER] {
                     return;
                 }
             }
             Leg::Leads(head, on) => {
-                walk(net, run, head, on.met, on.metres, on.exposure);
+                walk(net, run, store, head, on.met, on.metres, on.exposure);
                 if 0 < run[OVER] {
                     return;
                 }
@@ -146,9 +158,10 @@ fn swept_in(run: [u64; RUN_WORDS]) -> Swept
 }
 
 // The tally after the routes of one window of lengths; past the cap nothing is walked.
-pub fn sweep(net: &[u64], w: Window, t: Tally) -> Swept
-    requires { ⌜ Net (now net) × (w .hi ≤ meshIn (now net) .reach) ⌝ }
-    ensures { λ r. ⌜ SweptAll (meshIn (now (net .entry))) w t r ⌝ }
+pub fn sweep(net: &[u64], store: &mut [u64], w: Window, t: Tally) -> Swept
+    requires { ⌜ Net (now net) × (w .hi ≤ meshIn (now net) .reach) × Stored (now net) (now store) ⌝ }
+    ensures swept { λ r. ⌜ SweptAll (meshIn (now (net .entry))) w t r ⌝ }
+    ensures stored { λ _. ⌜ Stored (now (net .entry)) (now (store .exit)) ⌝ }
 {
     if t.over {
         return Swept {
@@ -159,6 +172,6 @@ pub fn sweep(net: &[u64], w: Window, t: Tally) -> Swept
     let source = net::source(net);
     let met = sets::with(0, source as u8);
     let mut run = [w.lo, w.hi, w.cap, t.ranked, t.last, t.best, 0, NO_LENGTH];
-    walk(net, &mut run, source, met, 0, exposure::nothing());
+    walk(net, &mut run, store, source, met, 0, exposure::nothing());
     swept_in(run)
 }

@@ -8,23 +8,29 @@ use Rattle.choose.proofs.as_ranked.Statement.{statement}
 use Rattle.choose.proofs.as_ranked.Tie as tie
 
 pair-by-requires : tie.Need-pair-by-requires
-pair-by-requires c κs = let s = c .before in (s .pre .0, step-readable (meshIn (s .args .net .now)) (s .pre .0 .reach-range) (s .pre .2 .of-step))
-
-cast-t8 : tie.Need-cast-t8
-cast-t8 c = search needs
+pair-by-requires c κs =
+    let s = c .before .before .before in
+    (s .pre .0, step-readable (meshIn (s .args .net .now)) (s .pre .0 .reach-range) (s .pre .2 .of-step), s .pre .3)
 
 returns : tie.Need-returns
 returns c =
-    let k = c .before .before .before in
-    let s = k .before .before in
+    let k = c .before .before .before .before .before in
+    let s = k .before .before .before .before in
     let r = s .pre .2 in
+    let p = k .pair-by .ensures .0 in
     record {
-      main-fit = k .pair-by .ensures .main-fit;
-      standby-fit = k .pair-by .ensures .standby-fit;
+      main-fit = p .main-fit;
+      standby-fit = p .standby-fit;
       verdict-is = r .verdict-is;
       ranked-is = r .ranked-is;
-      pair-is = k .pair-by .ensures .best-of (r .of-step) .pair-is ∙ ap (best every (routesIn (s .args .net .now))) (r .ranked-is);
+      pair-is = p .best-of (r .of-step) .pair-is ∙ ap (best every (routesIn (s .args .net .now))) (r .ranked-is);
     }
 
 pub as-ranked-spec : {M : Type 1} → statement M
-as-ranked-spec = tie.close (tie.spec pair-by-requires cast-t8 returns)
+as-ranked-spec =
+    tie.close
+    (tie.spec
+    pair-by-requires
+    (λ c. search needs)
+    (λ c. search needs)
+    returns)

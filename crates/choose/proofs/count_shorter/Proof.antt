@@ -10,20 +10,22 @@ use Rattle.choose.proofs.count_shorter.Tie as tie
 
 returns : tie.Need-returns
 returns c =
-    let a = c .before .before .args in
+    let a = c .before .before .before .args in
     sym (count-none (routesIn (a .net .now))) ∙ ap (λ (x : ℕ). count (shorter x) (routesIn (a .net .now))) (sym (c .if1 .taken))
-
-sub-t9 : tie.Need-sub-t9
-sub-t9 c = search needs
-
-sweep-requires : tie.Need-sweep-requires
-sweep-requires c κs = search needs
 
 returns-2 : tie.Need-returns-2
 returns-2 c =
-    let s = c .before .before .before .before in
+    let k = c .before .before .before in
+    let s = k .before .before .before .before .before in
     let a = s .args in
-    swept-shorter (meshIn (a .net .now)) (a .metres) (a .cap) (c .before .before .if1 .left) (s .pre .1) (s .pre .2) _ (c .before .sweep .result .tally) refl refl (c .before .sweep .ensures .tally-is)
+    swept-shorter (meshIn (a .net .now)) (a .metres) (a .cap) (k .before .before .if1 .left) (s .pre .0 .1) (s .pre .0 .2) _ (k .sweep .result .tally) refl refl (k .sweep .ensures .0 .tally-is)
 
 pub count-shorter-spec : {M : Type 1} → statement M
-count-shorter-spec = tie.close (tie.spec returns sub-t9 sweep-requires returns-2)
+count-shorter-spec =
+    tie.close
+    (tie.spec
+    returns
+    (λ c. search needs)
+    (λ c κs. search needs)
+    (λ c. search needs)
+    returns-2)

@@ -1,5 +1,5 @@
 -- `mains::best_with` meets its contract: the least key of the standbys stands beside the best pair's key; below the bound it makes the
--- pair, else the best stays. Assumes nothing.
+-- pair, else the best stays. The store is as the search left it. Assumes nothing.
 use mathlib.Core.Path.{sym, _∙_}
 use native.Mathlib.Omega.{arith}
 use Rattle.net.specs.Net.{meshIn}
@@ -9,28 +9,32 @@ use borrow.Author.Needs.{needs}
 use Rattle.mains.proofs.best_with.Statement.{statement}
 use Rattle.mains.proofs.best_with.Tie as tie
 
+abbrev start : tie.After-best-key → tie.Start
+start k = k .before .before .before .before .before
+
 -- after the search
-beside : (k : tie.After-best-key) → let s = k .before .before .before in
+beside : (k : tie.After-best-key) → let s = start k in
     Beside (meshIn (s .args .net .now)) (s .args .main) (s .args .best) (s .pre .0 .reach-range) (s .pre .1) (k .best-key .result) (bestWith (meshIn (s .args .net .now)) (s .args .main) (s .args .best))
-beside k = let s = k .before .before .before in beside-all _ _ (s .args .best) _ (s .pre .1) (k .before .bound-for .ensures) (k .best-key .ensures)
+beside k = let s = start k in beside-all _ _ (s .args .best) _ (s .pre .1) (k .before .before .bound-for .ensures) (k .best-key .ensures .0)
 
 pair-of-requires : tie.Need-pair-of-requires
 pair-of-requires c κs =
-    let k = c .before in
-    let s = k .before .before .before in
-    (s .pre .1, beside-made _ _ (s .args .best) _ (s .pre .1) (beside k) (omega (arith, c .if1 .taken, k .before .bound-for .ensures)) .of-standby)
+    let k = c .before .before .before in
+    let s = start k in
+    (s .pre .1, beside-made _ _ (s .args .best) _ (s .pre .1) (beside k) (omega (arith, c .if1 .taken, k .before .before .bound-for .ensures)) .of-standby)
 
 returns : tie.Need-returns
 returns c =
-    let k = c .before .before in
-    let s = k .before .before .before in
-    c .pair-of .ensures ∙ beside-made _ _ (s .args .best) _ (s .pre .1) (beside k) (omega (arith, c .before .if1 .taken, k .before .bound-for .ensures)) .is
+    let k = c .before .before .before .before in
+    let s = start k in
+    let made = beside-made _ _ (s .args .best) _ (s .pre .1) (beside k) (omega (arith, c .before .if1 .taken, k .before .before .bound-for .ensures)) in
+    (c .pair-of .ensures ∙ made .is, k .best-key .ensures .1)
 
 returns-2 : tie.Need-returns-2
 returns-2 c =
-    let k = c .before in
-    let s = k .before .before .before in
-    sym (beside-kept _ _ (s .args .best) _ (s .pre .1) (beside k) (omega (arith, c .if1 .left, k .before .bound-for .ensures)))
+    let k = c .before .before .before in
+    let s = start k in
+    (sym (beside-kept _ _ (s .args .best) _ (s .pre .1) (beside k) (omega (arith, c .if1 .left, k .before .before .bound-for .ensures))), k .best-key .ensures .1)
 
 pub best-with-spec : {M : Type 1} → statement M
-best-with-spec = tie.close (tie.spec (λ c κs. search needs) (λ c κs. search needs) pair-of-requires returns returns-2)
+best-with-spec = tie.close (tie.spec (λ c κs. search needs) (λ c κs. search needs) pair-of-requires (λ c. search needs) returns (λ c. search needs) returns-2)

@@ -1,30 +1,29 @@
--- `planner::make` meets its contract: what the parts learnt of the laid-out words is true of the call. Assumes nothing.
-use borrow.Author.Needs.{needs}
+-- `planner::make` meets its contract: what the parts learnt of the laid-out words is true of the call; an empty store is true of any words. Assumes nothing.
+use mathlib.Core.Path.{refl}
+use Rattle.cores.proofs.CoreLaws.{stored-none}
 use Rattle.planner.proofs.PlannerLaws.{floor-counted, planning, made-planned}
+use borrow.Author.Needs.{needs}
 use Rattle.planner.proofs.make.Statement.{statement}
 use Rattle.planner.proofs.make.Tie as tie
 
 plan-requires : tie.Need-plan-requires
 plan-requires c κs =
-    let laid = c .before .before in
+    let laid = c .before .before .before in
     let sized = laid .before .before in
     let common = sized .before in
-    let start = common .before .before .before in
-    (laid .lay-out .ensures .words, planning (start .pre .0) (laid .lay-out .ensures) (start .pre .1 .1) (floor-counted (start .pre .0) (common .common-exposure .ensures) (sized .size .ensures .0)))
-
-choose-requires : tie.Need-choose-requires
-choose-requires c κs =
-    let laid = c .before .before .before .before in
-    let start = laid .before .before .before .before .before .before in
-    (laid .lay-out .ensures .words, start .pre .0 .allowance-range, c .before .plan .ensures)
+    let start = common .before .before .before in (
+      laid .lay-out .ensures .words,
+      planning (start .pre .0) (laid .lay-out .ensures) (start .pre .1 .1) (floor-counted (start .pre .0) (common .common-exposure .ensures) (sized .size .ensures .0)),
+      stored-none _ _ refl refl,
+    )
 
 returns : tie.Need-returns
 returns c =
-    let laid = c .before .before .before .before .before in
+    let laid = c .before .before .before .before .before .before .before .before .before in
     let sized = laid .before .before in
     let common = sized .before in
     let start = common .before .before .before in
-    made-planned (start .pre .0) (laid .lay-out .ensures) (start .pre .1 .1) (floor-counted (start .pre .0) (common .common-exposure .ensures) (sized .size .ensures .0)) (c .choose .ensures)
+    made-planned (start .pre .0) (laid .lay-out .ensures) (start .pre .1 .1) (floor-counted (start .pre .0) (common .common-exposure .ensures) (sized .size .ensures .0)) (c .before .choose .ensures)
 
 pub make-spec : {M : Type 1} → statement M
 make-spec =
@@ -36,8 +35,10 @@ make-spec =
     (λ c. search needs)
     (λ c κs. search needs)
     (λ c. search needs)
+    (λ c. search needs)
     plan-requires
     (λ c. search needs)
-    choose-requires
+    (λ c. search needs)
+    (λ c κs. search needs)
     (λ c. search needs)
     returns)

@@ -1,4 +1,5 @@
--- `sweep::sweep` meets its contract: past the cap nothing changes; else what the walk from the source leaves in the words is read back. Assumes nothing.
+-- `sweep::sweep` meets its contract: past the cap nothing changes; else what the walk from the source leaves in the words is read back, and the
+-- store is as the walk left it. Assumes nothing.
 use native.Mathlib.Omega.{arith}
 use borrow.Author.Needs.{needs}
 use Rattle.sweep.proofs.SweepLaws.{over-all}
@@ -7,16 +8,20 @@ use Rattle.sweep.proofs.sweep.Statement.{statement}
 use Rattle.sweep.proofs.sweep.Tie as tie
 
 returns : tie.Need-returns
-returns c = let s = c .before .before in over-all _ (s .args .w) (s .args .t) _ (omega (arith, s .pre .0 .reach-range, s .pre .1)) (c .if1 .taken)
+returns c =
+    let s = c .before .before .before in
+    (over-all _ (s .args .w) (s .args .t) _ (omega (arith, s .pre .0 .reach-range, s .pre .1)) (c .if1 .taken), s .pre .2)
 
 returns-2 : tie.Need-returns-2
 returns-2 c =
-    let n = c .before .before in
-    let w = n .before .before in
+    let k = c .before .before .before in
+    let w = k .before .before .before .before in
     let e = w .before .before in
-    let s = e .before .before in
-    walk-sweeps (s .pre .0) (s .args .w) (s .args .t) _ (omega (arith, s .pre .0 .reach-range, s .pre .1)) (e .if1 .left) (w .before .source .ensures .0) (w .with .ensures) (n .nothing .ensures) (c .before .walk .ensures)
-    (c .swept-in .ensures)
+    let s = e .before .before .before in (
+      walk-sweeps (s .pre .0) (s .args .w) (s .args .t) _ (omega (arith, s .pre .0 .reach-range, s .pre .1)) (e .if1 .left) (w .before .source .ensures .0) (w .with .ensures) (k .before .nothing .ensures)
+          (k .walk .ensures .0) (c .swept-in .ensures),
+      k .walk .ensures .1,
+    )
 
 pub sweep-spec : {M : Type 1} → statement M
 sweep-spec =
@@ -29,4 +34,5 @@ sweep-spec =
     (λ c κs. search needs)
     (λ c κs. search needs)
     (λ c κs. search needs)
+    (λ c. search needs)
     returns-2)

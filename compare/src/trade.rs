@@ -1,0 +1,157 @@
+//! Small meshes in the shapes of this trade, on which risks crowd: the ways into a building lie in a few ducts, those
+//! over a river too, and cables side by side. Any two routes then share some risk, and mostly none lies on all.
+
+use crate::mesh::Arc;
+use crate::random::{chain, two_nodes, Dice, Ends};
+
+#[derive(Clone, Copy)]
+pub enum Shape {
+    DuctsIntoTerminal,
+    DuctsIntoNeighbours,
+    DuctsAtBothEnds,
+    River,
+    TwoRivers,
+    Ring,
+    Cables,
+    SeveralRisks,
+}
+
+/// Every shape, in the order in which it is counted, and its name there.
+pub const SHAPES: [(Shape, &str); 8] = [
+    (Shape::DuctsIntoTerminal, "ducts into the terminal"),
+    (Shape::DuctsIntoNeighbours, "into its neighbours"),
+    (Shape::DuctsAtBothEnds, "at both ends"),
+    (Shape::River, "a river"),
+    (Shape::TwoRivers, "two rivers"),
+    (Shape::Ring, "a ring"),
+    (Shape::Cables, "cables"),
+    (Shape::SeveralRisks, "several risks an arc"),
+];
+
+const SOURCE: u8 = 0;
+const TERMINAL: u8 = 1;
+/// The last node before the terminal where a ring has one.
+const GATE: u8 = 31;
+/// The risk of the last duct, and of the last one of a second place; risks beside ducts are lower.
+const LAST_DUCT: usize = 63;
+const LAST_DUCT_ELSEWHERE: usize = 59;
+
+// ---- The ends of the arcs ----
+
+/// Which strip of land a node is on; the source is on the first, the terminal on the last.
+fn strip_of(node: u8, strips: usize) -> usize {
+    match node {
+        SOURCE => 0,
+        TERMINAL => strips - 1,
+        _ => usize::from(node) % strips,
+    }
+}
+
+/// Land in strips with a river between each and the next; no span leads over two rivers.
+fn land(dice: &mut Dice, strips: usize) -> Ends {
+    let nodes = dice.between(strips + 4, strips + 7);
+    let spans = dice.between(3 * nodes / 2, 5 * nodes / 2);
+    let mut ends = Ends::new();
+    while ends.len() < 2 * spans {
+        let (tail, head) = two_nodes(dice, nodes);
+        if strip_of(tail, strips).abs_diff(strip_of(head, strips)) < 2 {
+            ends.extend([(tail, head), (head, tail)]);
+        }
+    }
+    ends
+}
+
+/// A ring, each node joined with the next and maybe with the next but one; from the node opposite the source three arcs
+/// to the gate, and from there three to the terminal.
+fn ring(dice: &mut Dice) -> Ends {
+    let mut nodes = chain(dice.between(3, 5));
+    nodes.pop(); // the terminal
+    let mut ends = Ends::new();
+    for hop in 1..=dice.between(1, 2) {
+        for (place, &tail) in nodes.iter().enumerate() {
+            let head = nodes[(place + hop) % nodes.len()];
+            ends.extend([(tail, head), (head, tail)]);
+        }
+    }
+    let opposite = nodes[nodes.len() / 2];
+    ends.extend([(opposite, GATE); 3]);
+    ends.extend([(GATE, TERMINAL); 3]);
+    ends
+}
+
+/// A chain of a few hops with as many cables on each, and no more routes than are listed whole.
+fn cables(dice: &mut Dice) -> Ends {
+    let (cables, most_hops) = dice.pick(&[(2, 8), (3, 5), (4, 4)]);
+    let hops = dice.between(2, most_hops);
+    chain(hops - 1).windows(2).flat_map(|hop| vec![(hop[0], hop[1]); cables]).collect()
+}
+
+// ---- Risks ----
+
+/// The river is counted from that behind the first strip.
+fn crosses(arc: &Arc, river: usize, strips: usize) -> bool {
+    strip_of(arc.tail, strips) + strip_of(arc.head, strips) == 2 * river + 1
+}
+
+/// Lays ducts on the chosen arcs: arc after arc lies in all of them but one, each left out in turn.
+fn lay(arcs: &mut [Arc], ducts: usize, last: usize, chosen: impl Fn(&Arc) -> bool) {
+    let all = (1 << ducts) - 1;
+    for (turn, arc) in arcs.iter_mut().filter(|arc| chosen(arc)).enumerate() {
+        let left_out = 1 << (turn % ducts);
+        arc.risks |= (all & !left_out) << (last + 1 - ducts);
+    }
+}
+
+impl Shape {
+    pub fn ends(self, dice: &mut Dice) -> Ends {
+        match self {
+            Shape::DuctsIntoTerminal | Shape::DuctsAtBothEnds | Shape::SeveralRisks => land(dice, 1),
+            // An arc past the neighbours would be free of their ducts.
+            Shape::DuctsIntoNeighbours => {
+                let mut ends = land(dice, 1);
+                ends.retain(|&ends| ends != (SOURCE, TERMINAL));
+                ends
+            }
+            Shape::River => land(dice, 2),
+            Shape::TwoRivers => land(dice, 3),
+            Shape::Ring => ring(dice),
+            Shape::Cables => cables(dice),
+        }
+    }
+
+    /// The risks beside the ducts: one an arc out of few or many, or several.
+    pub fn risks(self, dice: &mut Dice, arcs: &mut [Arc]) {
+        let (risks, most) = match self {
+            Shape::SeveralRisks => dice.pick(&[(12, 4), (24, 6), (64, 15)]),
+            Shape::Cables => dice.pick(&[(3, 1), (6, 1), (12, 1), (64, 1)]),
+            _ => dice.pick(&[(4, 1), (12, 1), (40, 1)]),
+        };
+        for arc in arcs {
+            for _ in 0..dice.between(1, most) {
+                arc.risks |= 1 << dice.below(risks);
+            }
+        }
+    }
+
+    pub fn lay_ducts(self, dice: &mut Dice, arcs: &mut [Arc]) {
+        let ducts = dice.between(3, 4);
+        match self {
+            Shape::DuctsIntoTerminal => lay(arcs, ducts, LAST_DUCT, |arc| arc.head == TERMINAL),
+            Shape::DuctsIntoNeighbours => {
+                let neighbours: Vec<u8> = arcs.iter().filter(|arc| arc.head == TERMINAL).map(|arc| arc.tail).collect();
+                lay(arcs, ducts, LAST_DUCT, |arc| arc.tail != TERMINAL && neighbours.contains(&arc.head));
+            }
+            Shape::DuctsAtBothEnds => {
+                lay(arcs, ducts, LAST_DUCT, |arc| arc.head == TERMINAL);
+                lay(arcs, ducts, LAST_DUCT_ELSEWHERE, |arc| arc.tail == SOURCE);
+            }
+            Shape::River => lay(arcs, ducts, LAST_DUCT, |arc| crosses(arc, 0, 2)),
+            Shape::TwoRivers => {
+                lay(arcs, ducts, LAST_DUCT, |arc| crosses(arc, 0, 3));
+                lay(arcs, ducts, LAST_DUCT_ELSEWHERE, |arc| crosses(arc, 1, 3));
+            }
+            Shape::Ring => lay(arcs, 3, LAST_DUCT, |arc| arc.head == GATE),
+            Shape::Cables | Shape::SeveralRisks => (),
+        }
+    }
+}

@@ -1,0 +1,31 @@
+-- `cores::leave_out` meets its contract: what is left out does no harm where the search without it finds nothing below the bound. Assumes nothing.
+use Rattle.cores.proofs.CoreLaws.{below-smaller, kept-then, frame-kept}
+use borrow.Author.Needs.{needs}
+use Rattle.cores.proofs.leave_out.Statement.{statement}
+use Rattle.cores.proofs.leave_out.Tie as tie
+
+returns-2 : tie.Need-returns-2
+returns-2 c =
+    let k = c .before .before .before in
+    let s = k .before .before .before .before in
+    (s .before .before .before .before .before .before .before .pre .3, kept-then (frame-kept (s .search .kept .1 .0) (s .search .ensures .1 .1)) (k .spend .ensures))
+
+returns-3 : tie.Need-returns-3
+returns-3 c =
+    let k = c .before .before .before in
+    let s = k .before .before .before .before in
+    (below-smaller _ _ _ (c .if2 .left) (s .search .ensures .1 .0), kept-then (frame-kept (s .search .kept .1 .0) (s .search .ensures .1 .1)) (k .spend .ensures))
+
+pub leave-out-spec : {M : Type 1} → statement M
+leave-out-spec =
+    tie.close
+    (tie.spec
+    (λ c κs. search needs)
+    (λ c. search needs)
+    (λ c κs. search needs)
+    (λ c κs. search needs)
+    (λ c κs. search needs)
+    (λ c. search needs)
+    returns-2
+    (λ c. search needs)
+    returns-3)

@@ -1,0 +1,59 @@
+-- `cores::smaller_core` meets its contract. The invariant: what is left of the core holds, and the cores of the store are as they were. Assumes nothing.
+use Prim.Native.Nat.{_-_, _≤_}
+use native.Mathlib.Omega.{arith}
+use Rattle.net.specs.Net.{meshIn}
+use Rattle.standby.specs.Ahead.{quest, NoneBelow}
+use Rattle.cores.specs.Cores.{CoresKept}
+use Rattle.cores.proofs.CoreLaws.{kept-same, kept-then}
+use Rattle.cores.proofs.smaller_core.Statement.{statement}
+use Rattle.cores.proofs.smaller_core.Tie as tie
+
+abbrev Inv-loop : tie.InvT-loop
+Inv-loop net store₀ nodes bound core₀ r₀ store core r = (r ≤ 64) × NoneBelow (quest (meshIn net) core nodes) bound × CoresKept store₀ store
+
+abbrev μ-loop : tie.MeasureT-loop
+μ-loop net store₀ nodes bound core₀ r₀ store core r = 64 - r
+
+loop-holds : tie.Need-loop-holds Inv-loop μ-loop
+loop-holds c = (omega arith, c .before .before .pre .2, kept-same _)
+
+cast-loop : tie.Need-cast-loop Inv-loop μ-loop
+cast-loop c = omega arith
+
+leave-out-requires : tie.Need-leave-out-requires Inv-loop μ-loop
+leave-out-requires c κs =
+    let l = c .before .before in
+    let s = l .before .before .before in
+    (s .pre .0, omega (arith, s .pre .1, l .loop .inv .2 .size-same), omega (arith, c .before .loop-test .taken), l .loop .inv .1)
+
+add-r : tie.Need-add-r Inv-loop μ-loop
+add-r c = omega (arith, c .before .before .before .before .loop-test .taken)
+
+loop-less : tie.Need-loop-less Inv-loop μ-loop
+loop-less c = omega (arith, c .before .before .before .before .loop-test .taken)
+
+loop-again : tie.Need-loop-again Inv-loop μ-loop
+loop-again c =
+    let o = c .before .before .leave-out in
+    (omega (arith, c .before .before .before .before .loop-test .taken), o .ensures .0, kept-then (c .before .before .before .before .before .loop .inv .2) (o .ensures .1))
+
+same-length : tie.Need-same-length Inv-loop μ-loop
+same-length c = c .before .loop .inv .2 .size-same
+
+returns : tie.Need-returns Inv-loop μ-loop
+returns c = (c .before .loop .inv .1, c .before .loop .inv .2)
+
+pub smaller-core-spec : {M : Type 1} → statement M
+smaller-core-spec =
+    tie.close
+    (tie.spec
+    Inv-loop
+    μ-loop
+    loop-holds
+    cast-loop
+    leave-out-requires
+    add-r
+    loop-less
+    loop-again
+    same-length
+    returns)

@@ -1,0 +1,140 @@
+-- Ways to a node, which a search for a standby labels: one arc further, in the store, and why what comes late by one of them is not wanted: the shorter way
+-- that went before it, going on alike, would make a smaller key than the least. Assumes nothing.
+use mathlib.Core.Path.{_≡_, refl, sym, ap, _∙_, subst}
+use mathlib.Core.Bool.{false}
+use mathlib.Core.List.{List, [], _∷_, _++_}
+use Prim.Native.Nat.{ℕ, _+_, _≤_, _<_}
+use native.Mathlib.Decide.{ℕ-discrete}
+use native.Mathlib.Omega.{arith}
+use lib.ListN.{length}
+use borrow.Author.Tests.{ne-eqb}
+use Rattle.laws.specs.Sets.{bit}
+use Rattle.laws.proofs.SetLaws.{bit-empty}
+use Rattle.problem.specs.declared.Arc.{Arc}
+use Rattle.problem.specs.declared.Exposure.{Exposure}
+use Rattle.problem.specs.Table.{lastNode}
+use Rattle.problem.specs.Exposures.{toNothing, ofArc, joined, common, sharing}
+use Rattle.problem.specs.Routes.{Mesh, arcAt, metresOf, exposureOf, Way}
+use Rattle.problem.proofs.ExposureLaws.{exposed-nothing, exposed-joined, exposed-common, joined-assoc, joined-nothing, nothing-joined, sharing-part}
+use Rattle.exposure.proofs.WordLaws.{inside-at}
+use Rattle.keys.specs.Keys.{standbyKey}
+use Rattle.net.specs.Net.{wordAt}
+use Rattle.standby.specs.Ahead.{Avoids}
+use Rattle.standby.specs.Labels.{labelledAt, labelMetres, labelExposure, Shorter, Cleared, Labelled}
+use Rattle.standby.proofs.LabelLaws.{with-other}
+use Rattle.cores.specs.Cores.{Stored}
+use Rattle.cores.proofs.CoreLaws.{frame-kept, stored-kept}
+use Rattle.find.specs.declared.Want.{Want}
+use Rattle.find.specs.Find.{isWanted, Sure, Trail, Trails, Arrived}
+
+-- ---- two ways, one after the other
+
+module _ (arcs : List Arc) where
+  way-append : {v u to : ℕ} {ks : List ℕ} (js : List ℕ) → Way arcs v u ks → Way arcs u to js → Way arcs v to (ks ++ js)
+  way-append {to = to} js (Way.there e) w = subst (λ (x : ℕ). Way arcs x to js) (sym e) w
+  way-append js (Way.over {k = k} b t x) w = Way.over {k = k} b t (way-append js x w)
+
+  metres-append : (ks js : List ℕ) → metresOf arcs (ks ++ js) ≡ metresOf arcs ks + metresOf arcs js
+  unfolding metresOf
+  metres-append [] js = omega arith
+  metres-append (k ∷ ks) js = omega (arith, metres-append ks js)
+
+  exposure-append : (ks js : List ℕ) → exposureOf arcs (ks ++ js) ≡ joined (exposureOf arcs ks) (exposureOf arcs js)
+  unfolding exposureOf
+  exposure-append [] js = sym (nothing-joined (exposureOf arcs js))
+  exposure-append (k ∷ ks) js = ap (joined (ofArc (arcAt arcs k))) (exposure-append ks js) ∙ sym (joined-assoc (ofArc (arcAt arcs k)) (exposureOf arcs ks) (exposureOf arcs js))
+
+  -- nothing is banned
+  avoids-nothing : (ks : List ℕ) → Avoids arcs 0 ks
+  avoids-nothing [] = Avoids.none
+  avoids-nothing (k ∷ ks) = Avoids.one {k = k} (bit-empty (arcAt arcs k .head)) (avoids-nothing ks)
+
+-- ---- a way to a node
+
+module _ (m : Mesh) (main : Exposure) where
+  pub trail-start : {v metres : ℕ} {e : Exposure} → v ≡ m .source → Trail m main v metres e
+  unfolding metresOf exposureOf
+  trail-start at = record { list = []; way = Way.there (sym at); no-longer = omega arith; no-more = λ r. rw (exposed-common, exposed-nothing) (omega arith) }
+
+  -- one arc further
+  pub trail-over : {v metres : ℕ} (e : Exposure) (i : ℕ) → Trail m main v metres e → i < length (m .arcs) → arcAt (m .arcs) i .tail ≡ v
+      → Trail m main (arcAt (m .arcs) i .head) (metres + arcAt (m .arcs) i .metres) (joined e (ofArc (arcAt (m .arcs) i)))
+  unfolding metresOf exposureOf
+  trail-over {v} {metres} e i t inside tail =
+      let a = arcAt (m .arcs) i in
+      let one = i ∷ [] in
+      record {
+        list = t .list ++ one;
+        way = way-append (m .arcs) one (t .way) (Way.over {k = i} inside tail (Way.there refl));
+        no-longer = omega (arith, metres-append (m .arcs) (t .list) one, t .no-longer);
+        no-more = λ r.
+            rw (exposure-append (m .arcs) (t .list) one, joined-nothing)
+            (simp (exposed-common, exposed-joined) (omega (arith, t .no-more r, exposed-common main (exposureOf (m .arcs) (t .list)) r)));
+      }
+
+-- ---- in the store
+
+module _ (m : Mesh) (w : Want) where
+  pub trails-none : {before after : List ℕ} → Cleared before after → Trails m w after
+  trails-none c = record { told = λ s v h b. absurd (omega (arith, b, ap (λ (x : ℕ). bit x v) (c .none), bit-empty v)) }
+
+  pub trails-same : {before after : List ℕ} → (w .as_main ≡ false → after ≡ before) → Trails m w before → Trails m w after
+  trails-same {before} {after} e t = record {
+    told = λ s v h b.
+        subst (λ (x : List ℕ). Trail m (w .main) v (labelMetres x v) (labelExposure x v)) (sym (e s)) (t .told s v h (ap (λ (x : List ℕ). bit (wordAt x labelledAt) v) (sym (e s)) ∙ b));
+  }
+
+  pub trails-kept : {v metres : ℕ} (e : Exposure) {before after : List ℕ} → Trails m w before → Trail m (w .main) v metres e
+      → Labelled v metres (common (w .main) e) before after → Trails m w after
+  trails-kept {v} {metres} e {before} {after} t o k = record {
+    told = λ s u h b. elim (ℕ-discrete u v) [
+      | yes p ↦ own u p
+      | no ne ↦ other s u h ne (omega (arith, b, ap (λ (x : ℕ). bit x u) (k .labelled), with-other (wordAt before labelledAt) v u ne))
+    ];
+  }
+    where
+      shared : Trail m (w .main) v metres (common (w .main) e)
+      shared = record { list = o .list; way = o .way; no-longer = o .no-longer; no-more = λ r. simp exposed-common (omega (arith, o .no-more r, exposed-common (w .main) (exposureOf (m .arcs) (o .list)) r)) }
+
+      own : (u : ℕ) → u ≡ v → Trail m (w .main) u (labelMetres after u) (labelExposure after u)
+      own u p = subst (λ (y : ℕ). Trail m (w .main) y (labelMetres after y) (labelExposure after y)) (sym p) (rw (k .metres-is, k .exposure-is) shared)
+
+      other : w .as_main ≡ false → (u : ℕ) → u ≤ lastNode → (u ≡ v → ⊥) → bit (wordAt before labelledAt) u ≡ 1 → Trail m (w .main) u (labelMetres after u) (labelExposure after u)
+      other s u h ne b = rw (k .other-metres u h ne, k .other-exposure u h ne) (t .told s u h b)
+
+  pub trails-arrived : {v metres : ℕ} (e : Exposure) {before after : List ℕ} → Trails m w before → Trail m (w .main) v metres e → Arrived w v metres e before after → Trails m w after
+  trails-arrived e t o (Arrived.same p) = trails-same (λ s. p) t
+  trails-arrived e t o (Arrived.labelled k) = trails-kept e t o k
+
+  -- ---- what comes late
+
+  module _ (sure : Sure m w) (standby : w .as_main ≡ false) {store : List ℕ} (t : Trails m w store) {v metres : ℕ} (e : Exposure) (node : v ≤ lastNode) (late : Shorter store v metres e) where
+    abbrev earlier : Trail m (w .main) v (labelMetres store v) (labelExposure store v)
+    earlier = t .told standby v node (late .labelled)
+
+    abbrev arcs : List Arc
+    arcs = m .arcs
+
+    -- the earlier way, going on alike, shares no more
+    shares-less : (ks : List ℕ) → sharing (w .main) (joined toNothing (exposureOf arcs (earlier .list ++ ks))) ≤ sharing (w .main) (joined e (exposureOf arcs ks))
+    shares-less ks =
+        rw (nothing-joined, exposure-append arcs (earlier .list) ks)
+        (sharing-part (w .main) (exposureOf arcs (earlier .list)) e (exposureOf arcs ks)
+        (λ r. omega (arith, earlier .no-more r, inside-at (labelExposure store v) e (late .no-more) r)))
+
+    pub late-fails : (ks : List ℕ) → Way arcs v (m .terminal) ks → metres + metresOf arcs ks ≡ w .metres → isWanted m w (joined e (exposureOf arcs ks)) ≡ false
+    unfolding isWanted standbyKey
+    late-fails ks way is =
+        let js = earlier .list ++ ks in
+        let shorter : metresOf arcs js < w .metres = omega (arith, metres-append arcs (earlier .list) ks, earlier .no-longer, late .is-shorter, is) in
+        let least = sure .least standby .ahead (length js) .above js (record { way = way-append arcs ks (earlier .way) way; avoids = avoids-nothing arcs js; within-reach = omega (arith, shorter, sure .in-reach standby) }) (omega arith) in
+        rw (standby, isWanted)
+        (ne-eqb (standbyKey (sharing (w .main) (joined e (exposureOf arcs ks))) (w .metres)) (w .key) (λ same. omega (arith, same, least, shorter, shares-less ks)))
+
+-- the cores are as they were
+pub stored-arrived : (net : List ℕ) {w : Want} {v metres : ℕ} {e : Exposure} {before after : List ℕ} → length after ≡ length before → Arrived w v metres e before after → Stored net before → Stored net after
+stored-arrived net l (Arrived.same p) s = subst (λ (x : List ℕ). Stored net x) (sym p) s
+stored-arrived net l (Arrived.labelled k) s = stored-kept net (frame-kept l (k .frame)) s
+
+pub stored-cleared : (net : List ℕ) {before after : List ℕ} → length after ≡ length before → Cleared before after → Stored net before → Stored net after
+stored-cleared net l c s = stored-kept net (frame-kept l (c .frame)) s
