@@ -33,7 +33,7 @@ stored-none net store l e = record {
 -- ---- what a core says
 
 module _ (net store : List ℕ) (main : Exposure) (nodes bound : ℕ) (s : Stored net store) where
-  pub covered-below : Covered store main nodes bound → NoneBelow (quest (meshIn net) main nodes) bound
+  covered-below : Covered store main nodes bound → NoneBelow (quest (meshIn net) main nodes) bound
   covered-below c =
       let at = placeOf (c .number) in
       let f = c .covers in

@@ -84,7 +84,7 @@ module _ (m : Mesh) (w : Want) where
         subst (λ (x : List ℕ). Trail m (w .main) v (labelMetres x v) (labelExposure x v)) (sym (e s)) (t .told s v h (ap (λ (x : List ℕ). bit (wordAt x labelledAt) v) (sym (e s)) ∙ b));
   }
 
-  pub trails-kept : {v metres : ℕ} (e : Exposure) {before after : List ℕ} → Trails m w before → Trail m (w .main) v metres e
+  trails-kept : {v metres : ℕ} (e : Exposure) {before after : List ℕ} → Trails m w before → Trail m (w .main) v metres e
       → Labelled v metres (common (w .main) e) before after → Trails m w after
   trails-kept {v} {metres} e {before} {after} t o k = record {
     told = λ s u h b. elim (ℕ-discrete u v) [

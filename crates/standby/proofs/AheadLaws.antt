@@ -119,7 +119,7 @@ module _ (q : Quest) where
       one = offer-cases b least ks (λ x. x ≤ least) (omega arith) (λ h. omega arith)
 
   -- from a larger start the same is found, but for the start
-  pub fold-min : (b : Behind) (least top : ℕ) (l : List (List ℕ)) → least ≤ top → foldl (offers b) least l ≡ min least (foldl (offers b) top l)
+  fold-min : (b : Behind) (least top : ℕ) (l : List (List ℕ)) → least ≤ top → foldl (offers b) least l ≡ min least (foldl (offers b) top l)
   unfolding offered
   fold-min b least top [] h = omega arith
   fold-min b least top (ks ∷ l) h = omega (arith, one, fold-less b (offers b top ks) l, fold-min b (offers b least ks) (offers b top ks) l (omega (arith, one)))

@@ -29,7 +29,7 @@ unfolding digit
 with-other s v u ne = rw (bit-with s v u, ne-eqb u v ne) (omega arith)
 
 -- what the main shares of it lies inside it
-pub shared-inside : (main e : Exposure) → Inside (common main e) e
+shared-inside : (main e : Exposure) → Inside (common main e) e
 shared-inside main e r = rw exposed-common (omega arith)
 
 -- what the words are once a node is labelled
@@ -49,7 +49,7 @@ module _ (store : List ℕ) (v metres work : ℕ) (e : Exposure) (long : labelWo
   size-marked : length marked ≡ length store
   size-marked = simp length-set
 
-  pub size-measured : length measured ≡ length store
+  size-measured : length measured ≡ length store
   size-measured = simp length-set
 
   -- a word that is neither of the two first ones, nor the node's metres, nor of what it is exposed to

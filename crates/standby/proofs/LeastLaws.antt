@@ -36,7 +36,7 @@ module _ (q : Quest) (b : Behind) where
   offer-least bound ks h =
       rw (along-exposure arcs b ks, along-metres arcs b ks, le-leb (b .metres + metresOf arcs ks) (q .mesh .reach) h, offered) (omega arith)
 
-  pub fold-least : (bound : ℕ) (l : List (List ℕ)) {ks : List ℕ} → List·Memᴰ ks l → b .metres + metresOf arcs ks ≤ q .mesh .reach → foldl offers bound l ≤ keyBy q (b .metres) (b .exposure) ks
+  fold-least : (bound : ℕ) (l : List (List ℕ)) {ks : List ℕ} → List·Memᴰ ks l → b .metres + metresOf arcs ks ≤ q .mesh .reach → foldl offers bound l ≤ keyBy q (b .metres) (b .exposure) ks
   fold-least bound [] i h = absurd (List·Memᴰ·not-nil i)
   fold-least bound (js ∷ l) {ks} i h = go (List·Memᴰ·cases-cons i) (λ j. fold-least (offers bound js) l j h)
     where
