@@ -9,42 +9,26 @@ use native.Mathlib.Omega.{arith}
 use lib.ListN.{length}
 use borrow.Author.Tests.{ne-eqb}
 use Rattle.laws.specs.Sets.{bit}
-use Rattle.laws.proofs.SetLaws.{bit-empty}
+use Rattle.laws.proofs.SetLaws.{bit-empty, bit-with-other}
 use Rattle.problem.specs.declared.Arc.{Arc}
 use Rattle.problem.specs.declared.Exposure.{Exposure}
 use Rattle.problem.specs.Table.{lastNode}
 use Rattle.problem.specs.Exposures.{toNothing, ofArc, joined, common, sharing}
 use Rattle.problem.specs.Routes.{Mesh, arcAt, metresOf, exposureOf, Way}
-use Rattle.problem.proofs.ExposureLaws.{exposed-nothing, exposed-joined, exposed-common, joined-assoc, joined-nothing, nothing-joined, sharing-part}
+use Rattle.problem.proofs.ExposureLaws.{exposed-nothing, exposed-joined, exposed-common, joined-nothing, nothing-joined, sharing-part}
+use Rattle.problem.proofs.WayLaws.{way-append, metres-append, exposure-append}
 use Rattle.exposure.proofs.WordLaws.{inside-at}
 use Rattle.keys.specs.Keys.{standbyKey}
 use Rattle.net.specs.Net.{wordAt}
 use Rattle.standby.specs.Ahead.{Avoids}
 use Rattle.standby.specs.Labels.{labelledAt, labelMetres, labelExposure, Shorter, Cleared, Labelled}
-use Rattle.standby.proofs.LabelLaws.{with-other}
 use Rattle.cores.specs.Cores.{Stored}
 use Rattle.cores.proofs.CoreLaws.{frame-kept, stored-kept}
 use Rattle.find.specs.declared.Want.{Want}
 use Rattle.find.specs.Find.{isWanted, Sure, Trail, Trails, Arrived}
 
--- ---- two ways, one after the other
-
+-- nothing is banned
 module _ (arcs : List Arc) where
-  way-append : {v u to : ℕ} {ks : List ℕ} (js : List ℕ) → Way arcs v u ks → Way arcs u to js → Way arcs v to (ks ++ js)
-  way-append {to = to} js (Way.there e) w = subst (λ (x : ℕ). Way arcs x to js) (sym e) w
-  way-append js (Way.over {k = k} b t x) w = Way.over {k = k} b t (way-append js x w)
-
-  metres-append : (ks js : List ℕ) → metresOf arcs (ks ++ js) ≡ metresOf arcs ks + metresOf arcs js
-  unfolding metresOf
-  metres-append [] js = omega arith
-  metres-append (k ∷ ks) js = omega (arith, metres-append ks js)
-
-  exposure-append : (ks js : List ℕ) → exposureOf arcs (ks ++ js) ≡ joined (exposureOf arcs ks) (exposureOf arcs js)
-  unfolding exposureOf
-  exposure-append [] js = sym (nothing-joined (exposureOf arcs js))
-  exposure-append (k ∷ ks) js = ap (joined (ofArc (arcAt arcs k))) (exposure-append ks js) ∙ sym (joined-assoc (ofArc (arcAt arcs k)) (exposureOf arcs ks) (exposureOf arcs js))
-
-  -- nothing is banned
   avoids-nothing : (ks : List ℕ) → Avoids arcs 0 ks
   avoids-nothing [] = Avoids.none
   avoids-nothing (k ∷ ks) = Avoids.one {k = k} (bit-empty (arcAt arcs k .head)) (avoids-nothing ks)
@@ -89,7 +73,7 @@ module _ (m : Mesh) (w : Want) where
   trails-kept {v} {metres} e {before} {after} t o k = record {
     told = λ s u h b. elim (ℕ-discrete u v) [
       | yes p ↦ own u p
-      | no ne ↦ other s u h ne (omega (arith, b, ap (λ (x : ℕ). bit x u) (k .labelled), with-other (wordAt before labelledAt) v u ne))
+      | no ne ↦ other s u h ne (omega (arith, b, ap (λ (x : ℕ). bit x u) (k .labelled), bit-with-other (wordAt before labelledAt) v u ne))
     ];
   }
     where

@@ -59,6 +59,11 @@ pub bit-with : (s h r : ℕ) → bit (with s h) r ≡ max (bit s r) (digit (eqb 
 unfolding with
 bit-with s h r = rw (bit-or, bit-pow)
 
+-- of another, as it was
+pub bit-with-other : (s h r : ℕ) → (r ≡ h → ⊥) → bit (with s h) r ≡ bit s r
+unfolding digit
+bit-with-other s h r ne = rw (bit-with s h r, ne-eqb r h ne) (omega arith)
+
 pub bit-single : (h r : ℕ) → bit (with 0 h) r ≡ digit (eqb r h)
 bit-single h r = rw (bit-with, bit-empty) (omega arith)
 

@@ -1,9 +1,9 @@
--- A way with loops holds a route that is a part of it: some of its arcs, in their order. So it is no shorter, is exposed to no less, meets its nodes and
+-- Two ways, one after the other. A way with loops holds a route that is a part of it: some of its arcs, in their order. So it is no shorter, is exposed to no less, meets its nodes and
 -- goes over its arcs; and ways do no better than routes, in reach, for the floor and for shortest lengths. The route is the way with its loops cut out from the far end on. Assumes nothing.
 use mathlib.Core.Path.{_≡_, refl, sym, ap, _∙_, subst}
 use mathlib.Core.Logic.{_⊎_, inl, inr, _↔_}
-use mathlib.Core.List.{List, [], _∷_, List·Memᴰ, List·Memᴰ·not-nil, List·Memᴰ·cases-cons, Memᴰ·map, Memᴰ·of-map, Memᴰ·cast}
-use Prim.Native.Nat.{ℕ, _≤_, _<_}
+use mathlib.Core.List.{List, [], _∷_, _++_, List·Memᴰ, List·Memᴰ·not-nil, List·Memᴰ·cases-cons, Memᴰ·map, Memᴰ·of-map, Memᴰ·cast}
+use Prim.Native.Nat.{ℕ, _+_, _≤_, _<_}
 use native.Mathlib.Omega.{arith}
 use lib.Dec.{ltb}
 use borrow.Author.Tests.{ltb-false}
@@ -16,13 +16,30 @@ use Rattle.laws.proofs.FirstLaws.{first-mem, first-least}
 use Rattle.problem.specs.declared.Arc.{Arc}
 use Rattle.problem.specs.declared.Exposure.{Exposure}
 use Rattle.problem.specs.Table.{lastNode, mostArcs, mostShared}
-use Rattle.problem.specs.Exposures.{exposed, disjoint}
+use Rattle.problem.specs.Exposures.{exposed, ofArc, joined, disjoint}
 use Rattle.problem.specs.Routes.{Mesh, arcAt, metresOf, exposureOf, nodesFrom, Way, IsWay, pathsFrom, Route, routeOf, routesFrom, ranking, FreeWay, freeLengths, shortest}
 use Rattle.problem.specs.Pairs.{pair, sharedCount, total, onEvery}
-use Rattle.problem.proofs.ExposureLaws.{exposed-le-one, exposed-joined, Inside, disjoint-inside}
+use Rattle.problem.proofs.ExposureLaws.{exposed-le-one, exposed-joined, joined-assoc, nothing-joined, Inside, disjoint-inside}
 use Rattle.problem.proofs.RouteLaws.{grow-out, grow-in, grown-exact, grown-short, unmet-source}
 use Rattle.problem.proofs.RankingLaws.{LowHeads, ranking-in, ranking-out}
 use Rattle.problem.proofs.PairLaws.{shared-mono, every-inside, every-all}
+
+-- ---- two ways, one after the other
+
+module _ (arcs : List Arc) where
+  pub way-append : {v u to : ℕ} {ks : List ℕ} (js : List ℕ) → Way arcs v u ks → Way arcs u to js → Way arcs v to (ks ++ js)
+  way-append {to = to} js (Way.there e) w = subst (λ (x : ℕ). Way arcs x to js) (sym e) w
+  way-append js (Way.over {k = k} b t x) w = Way.over {k = k} b t (way-append js x w)
+
+  pub metres-append : (ks js : List ℕ) → metresOf arcs (ks ++ js) ≡ metresOf arcs ks + metresOf arcs js
+  unfolding metresOf
+  metres-append [] js = omega arith
+  metres-append (k ∷ ks) js = omega (arith, metres-append ks js)
+
+  pub exposure-append : (ks js : List ℕ) → exposureOf arcs (ks ++ js) ≡ joined (exposureOf arcs ks) (exposureOf arcs js)
+  unfolding exposureOf
+  exposure-append [] js = sym (nothing-joined (exposureOf arcs js))
+  exposure-append (k ∷ ks) js = ap (joined (ofArc (arcAt arcs k))) (exposure-append ks js) ∙ sym (joined-assoc (ofArc (arcAt arcs k)) (exposureOf arcs ks) (exposureOf arcs js))
 
 -- ---- what a part of a list of arcs has
 

@@ -8,9 +8,8 @@ use native.Mathlib.Decide.{ℕ-discrete, decLt}
 use native.Mathlib.Omega.{arith}
 use lib.ListN.{length, getD, set, length-set}
 use lib.Seq.{getD-set-same, getD-set-other}
-use borrow.Author.Tests.{ne-eqb}
 use Rattle.laws.specs.Sets.{bit, with}
-use Rattle.laws.proofs.SetLaws.{digit, bit-empty, bit-with}
+use Rattle.laws.proofs.SetLaws.{bit-empty, bit-with-other}
 use Rattle.problem.specs.declared.Exposure.{Exposure}
 use Rattle.problem.specs.Table.{lastNode}
 use Rattle.problem.specs.Exposures.{common}
@@ -22,11 +21,6 @@ use Rattle.net.specs.Net.{wordAt}
 use Rattle.standby.specs.Ahead.{Quest, Ahead}
 use Rattle.standby.specs.Labels.{labelledAt, workAt, metresFrom, exposuresFrom, labelWords, labelMetres, labelExposure, Labels, Known, Cleared, Labelled, Back}
 use Rattle.standby.proofs.AheadLaws.{ahead-none, ahead-fewer, ahead-more}
-
--- a bit of a set with one more, which is another's
-pub with-other : (s v u : ℕ) → (u ≡ v → ⊥) → bit (with s v) u ≡ bit s u
-unfolding digit
-with-other s v u ne = rw (bit-with s v u, ne-eqb u v ne) (omega arith)
 
 -- what the main shares of it lies inside it
 shared-inside : (main e : Exposure) → Inside (common main e) e
@@ -100,7 +94,7 @@ module _ (q : Quest) where
   labels-kept {n} {x} {v} {metres} e {before} {after} l a k = record {
     told = λ u h b. elim (ℕ-discrete u v) [
       | yes p ↦ own u p
-      | no ne ↦ other u h ne (omega (arith, b, ap (λ (s : ℕ). bit s u) (k .labelled), with-other (wordAt before labelledAt) v u ne))
+      | no ne ↦ other u h ne (omega (arith, b, ap (λ (s : ℕ). bit s u) (k .labelled), bit-with-other (wordAt before labelledAt) v u ne))
     ];
   }
     where

@@ -6,7 +6,7 @@ use native.Mathlib.Decide.{ℕ-discrete, decLt}
 use native.Mathlib.Omega.{arith}
 use lib.ListN.{length}
 use Rattle.laws.specs.Sets.{bit, with, unmet}
-use Rattle.laws.proofs.SetLaws.{bit-with}
+use Rattle.laws.proofs.SetLaws.{bit-with, bit-with-other}
 use Rattle.problem.specs.declared.Arc.{Arc}
 use Rattle.problem.specs.declared.Exposure.{Exposure}
 use Rattle.problem.specs.Table.{lastNode}
@@ -27,7 +27,7 @@ use Rattle.standby.proofs.DoorLaws.{shared-ahead, shared-door}
 use Rattle.standby.proofs.HopLaws.{Skips, passed-is, Ending, ends-is, Leading, leads-is}
 use Rattle.standby.proofs.OfferLaws.{offer-far, offer-no-better, offer-ends}
 use Rattle.standby.proofs.AheadLaws.{ahead-fewer, ahead-more, ahead-far, ahead-no-better, ahead-step, fold-less, fold-mono, above-all}
-use Rattle.standby.proofs.LabelLaws.{with-other, labels-none, labels-known, labels-kept, Around, knot}
+use Rattle.standby.proofs.LabelLaws.{labels-none, labels-known, labels-kept, Around, knot}
 
 -- what was passed on lies inside what has one more arc behind it
 part-onto : (main e a : Exposure) → Inside (common main e) (joined e a)
@@ -187,7 +187,7 @@ module _ (net : List ℕ) (main : Exposure) (b : Behind) (at : ℕ) where
         given x after new s =
             turn x after (s .frame) (s .no-more) (left-below x new (s .real))
             (λ banned n y p f r.
-            let w = s .all banned n y p (record { back = λ u k c ne. back banned n y f u (omega (arith, k, with-other (b .met) (arcAt arcs i .head) u ne)) c }) r in
+            let w = s .all banned n y p (record { back = λ u k c ne. back banned n y f u (omega (arith, k, bit-with-other (b .met) (arcAt arcs i .head) u ne)) c }) r in
             (λ c. ahead-fewer (asked banned) (w .0) (omega arith), w .1))
           where
             back : (banned n y : ℕ) → Around (asked banned) n y b → (u : ℕ) → bit (b .met) u ≡ 1 → bit banned u ≡ 0
@@ -250,7 +250,7 @@ module _ (net : List ℕ) (main : Exposure) (nodes bound : ℕ) {at met key : �
 
   -- but for banned nodes, only the source was met
   back : (k : ℕ) → Back q k key (meshIn net .source) first
-  back k = record { back = λ u b o ne. absurd (omega (arith, b, o, with-other nodes (meshIn net .source) u ne)) }
+  back k = record { back = λ u b o ne. absurd (omega (arith, b, o, bit-with-other nodes (meshIn net .source) u ne)) }
 
   pub sought-below : NoneBelow (quest (meshIn net) main nodes) key
   sought-below = record {
