@@ -1,5 +1,5 @@
-// The planner on the benchmark's cases: the entry of target/staticlib/libentry.a as a host calls it, checks and reply included.
-#include "../host/feshangul.h"
+// The planner on the benchmark's cases: the entry of release/libfeshangul.a as a host calls it, checks and reply included.
+#include "../release/feshangul.h"
 #include "cases.h"
 
 Answer plan(const Case &c) {

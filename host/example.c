@@ -1,5 +1,5 @@
 /* A C host in small: writes a span table (mesh A of the rules), asks for a pair from node 0 to node 3, and prints
- * it in words. Build it with the planner's archive: cc -std=c99 -I host host/example.c target/staticlib/libentry.a */
+ * it in words. Build it with the release: cc -std=c99 -I release host/example.c release/libfeshangul.a */
 #include "feshangul.h"
 
 #include <stdio.h>
@@ -8,24 +8,10 @@
 
 enum { ARCS = 5, SOURCE = 0, TERMINAL = 3, REACH = 10000, ALLOWANCE = 1000 };
 
-static void put_number(uint8_t *at, size_t bytes, uint64_t number)
-{
-    for (size_t i = 0; i < bytes; i++) {
-        at[i] = (uint8_t)(number % 256);
-        number /= 256;
-    }
-}
-
 /* Writes the record of arc number `arc` into the table. */
-static void put_arc(uint8_t *table, size_t arc, uint8_t tail, uint8_t head, uint32_t metres, uint64_t risks)
+static void put_arc(uint8_t *table, size_t arc, uint32_t tail, uint32_t head, uint32_t metres, uint64_t risks)
 {
-    uint8_t *record = table + arc * FESHANGUL_ARC_BYTES;
-
-    put_number(record, FESHANGUL_ARC_BYTES, 0); /* the spare bytes are to be zero */
-    record[FESHANGUL_ARC_TAIL] = tail;
-    record[FESHANGUL_ARC_HEAD] = head;
-    put_number(record + FESHANGUL_ARC_METRES, 4, metres);
-    put_number(record + FESHANGUL_ARC_RISKS, 8, risks);
+    feshangul_put_arc(table + arc * FESHANGUL_ARC_BYTES, tail, head, metres, risks);
 }
 
 static void print_arc(const uint8_t *table, uint32_t arc)

@@ -8,6 +8,7 @@
 #   need PACKAGE THING..        installs the Debian package where one of these files or commands is missing
 #   need_compilers              the two compilers, with a C library to link
 #   need_rust                   rustc, with a linker for it
+#   need_kit                    the Rattle kit; nothing installs it
 
 kit() { dirname "$(dirname "$(rt doc)")"; }
 
@@ -15,7 +16,12 @@ cross=
 emulator=()
 if [ "$(uname -m)" != x86_64 ]; then
     cross=x86_64-linux-gnu-
-    emulator=("$(kit)/on/$(uname -m)/toolchain/bin/qemu-x86_64")
+    # shellcheck disable=SC2034  # for the script that sources this
+    if command -v rt > /dev/null; then
+        emulator=("$(kit)/on/$(uname -m)/toolchain/bin/qemu-x86_64")
+    else
+        emulator=(qemu-x86_64)
+    fi
 fi
 
 # A linked program wants the kit's own loader and C library.
@@ -27,6 +33,12 @@ find_loader() {
     loader=("${emulator[@]}" "$lib/ld-linux-x86-64.so.2" --library-path "$lib")
 }
 
+need_kit() {
+    command -v rt > /dev/null && return
+    echo "$0: needs the Rattle kit (the command rt), which proves and builds the planner; planning by ./plan does not" >&2
+    exit 2
+}
+
 need() {
     local package=$1 thing
     shift
@@ -35,13 +47,22 @@ need() {
     done
 }
 
-# Says so on standard error: what ./plan prints through these scripts is the answer alone.
 install_package() {
-    local log=target/install.log
-    mkdir -p target
-    echo "$(basename "$(dirname "$0")"): installing $1" >&2
-    { apt-get install -y --no-install-recommends "$1" || { apt-get update && apt-get install -y --no-install-recommends "$1"; }; } \
-        > "$log" 2>&1 || { cat "$log" >&2; exit 2; }
+    local log
+    if [ "$(id -u)" != 0 ]; then
+        echo "$0: needs Debian's package $1: sudo apt-get install $1" >&2
+        exit 2
+    fi
+    echo "$0: installing Debian's package $1" >&2
+    log=$(mktemp)
+    if ! { apt-get install -y --no-install-recommends "$1" ||
+        { apt-get update && apt-get install -y --no-install-recommends "$1"; }; } > "$log" 2>&1; then
+        tail -n 20 "$log" >&2
+        echo "$0: Debian's package $1 is needed and could not be installed" >&2
+        rm -f "$log"
+        exit 2
+    fi
+    rm -f "$log"
 }
 
 need_compilers() {

@@ -3,6 +3,9 @@
  * This header is all that a C or C++ host includes. Fill a span table, call feshangul_plan, look at the number it
  * returns, and where that is 0 or 1 read the reply with the functions at the end. host/example.c does just that.
  *
+ * Linux on x86-64. Link with `pkg-config --cflags --libs feshangul`, or this header's folder and libfeshangul.a; the
+ * library needs memcpy and memset of its host and nothing else.
+ *
  * A route is a list of arcs, each beginning where the one before ends, that meets no node twice. Routes are ranked
  * by length, equal lengths by the first arc number that differs. The main and the standby may be the same route.
  *
@@ -18,6 +21,9 @@
 extern "C" {
 #endif
 
+#define FESHANGUL_VERSION "0.1.0"
+#define FESHANGUL_VERSION_NUMBER 100u    /* 10,000 times the first part, and 100 times the second, and the third */
+
 /* ---- Sizes and limits ------------------------------------------------------------------------------------- */
 
 #define FESHANGUL_ARC_BYTES 16u          /* one arc's record in the table */
@@ -30,11 +36,12 @@ extern "C" {
 #define FESHANGUL_ARC_METRES_MAX 2000000u
 #define FESHANGUL_REACH_MAX 62000000u    /* 31 arcs of 2,000,000 metres: no route is longer */
 #define FESHANGUL_ALLOWANCE_MAX 1000000u
+#define FESHANGUL_STACK_BYTES 65536u     /* stack that a call may need; 33,256 bytes are the most ever measured */
 
 /* ---- The span table ---------------------------------------------------------------------------------------
  *
- * One record for each arc. Where a field begins, from the record's first byte; the bytes between are to be zero.
- * docs/FORMATS.md says what each holds. */
+ * One record for each arc, arc 0 first, none between or before them. Where a field begins, from the record's first
+ * byte; the bytes between are to be zero. docs/FORMATS.md says what each holds; feshangul_put_arc writes one. */
 #define FESHANGUL_ARC_TAIL 0u
 #define FESHANGUL_ARC_HEAD 1u
 #define FESHANGUL_ARC_METRES 4u
@@ -51,7 +58,8 @@ extern "C" {
  * reach              how long a route may be, in metres, 0 to 62,000,000; the latter sets no limit.
  * allowance          how many mains may be tried, in order of rank, 1 to 1,000,000. The standby may be any route.
  *
- * Neither pointer needs any alignment. Nothing is kept between calls. */
+ * Neither pointer needs any alignment. There is no state, none is kept between calls, and nothing is allocated: any
+ * number of threads may call at once, each with a reply buffer of its own and FESHANGUL_STACK_BYTES of stack left. */
 uint32_t feshangul_plan(const uint8_t *table, size_t table_len, uint8_t *reply, size_t reply_len, uint32_t source,
                         uint32_t terminal, uint32_t reach, uint32_t allowance);
 
@@ -119,9 +127,7 @@ uint32_t feshangul_plan(const uint8_t *table, size_t table_len, uint8_t *reply, 
 #define FESHANGUL_REPLY_STANDBY 64u
 #define FESHANGUL_NO_ARC 255u            /* stands behind a route's last arc number */
 
-/* ---- Readers ----------------------------------------------------------------------------------------------
- *
- * Each takes the buffer that feshangul_plan has written with number 0 or 1. */
+/* ---- Numbers in bytes, little-endian whatever the host's own order ------------------------------------------ */
 
 static inline uint32_t feshangul_u32(const uint8_t *at)
 {
@@ -132,6 +138,35 @@ static inline uint64_t feshangul_u64(const uint8_t *at)
 {
     return (uint64_t)feshangul_u32(at) | (uint64_t)feshangul_u32(at + 4) << 32;
 }
+
+static inline void feshangul_put_u32(uint8_t *at, uint32_t number)
+{
+    for (int byte = 0; byte < 4; byte++)
+        at[byte] = (uint8_t)(number >> 8 * byte);
+}
+
+static inline void feshangul_put_u64(uint8_t *at, uint64_t number)
+{
+    feshangul_put_u32(at, (uint32_t)number);
+    feshangul_put_u32(at + 4, (uint32_t)(number >> 32));
+}
+
+/* ---- A writer of arcs --------------------------------------------------------------------------------------- */
+
+/* Writes one arc, FESHANGUL_ARC_BYTES from `record` on: from node `tail` to node `head`, `metres` long, with bit r of
+ * `risks` set when risk r touches it. A node that does not fit its byte is written as 255, which the planner refuses. */
+static inline void feshangul_put_arc(uint8_t *record, uint32_t tail, uint32_t head, uint32_t metres, uint64_t risks)
+{
+    feshangul_put_u32(record, 0);
+    record[FESHANGUL_ARC_TAIL] = (uint8_t)(tail > 255 ? 255 : tail);
+    record[FESHANGUL_ARC_HEAD] = (uint8_t)(head > 255 ? 255 : head);
+    feshangul_put_u32(record + FESHANGUL_ARC_METRES, metres);
+    feshangul_put_u64(record + FESHANGUL_ARC_RISKS, risks);
+}
+
+/* ---- Readers of a reply -------------------------------------------------------------------------------------
+ *
+ * Each takes the buffer that feshangul_plan has written with number 0 or 1. */
 
 /* FESHANGUL_SETTLED or FESHANGUL_STOPPED */
 static inline uint32_t feshangul_verdict(const uint8_t *reply) { return reply[FESHANGUL_REPLY_VERDICT]; }

@@ -1,0 +1,44 @@
+"""Feshangul: pairs of fibre routes that share as few risks as possible, planned by a proved library.
+
+    import feshangul
+
+    mesh = feshangul.read_mesh("examples/A.txt")
+    for request in mesh.requests:
+        answer = feshangul.plan(mesh, request)
+        print(answer.verdict, answer.main.metres, answer.standby.metres)
+
+`plan` returns a Pair, or a Refusal with its number and words. The standard library alone is needed.
+"""
+
+__version__ = "0.1.0"
+
+from pathlib import Path
+
+from .answer import Pair, Refusal, Route, plan
+from .fault import Fault, InputFault, LibraryFault
+from .mesh import Arc, Mesh, Request, Risk, Site
+from .text import read as parse_mesh
+from .text import write as write_mesh
+
+__all__ = [
+    "Arc",
+    "Fault",
+    "InputFault",
+    "LibraryFault",
+    "Mesh",
+    "Pair",
+    "Refusal",
+    "Request",
+    "Risk",
+    "Route",
+    "Site",
+    "parse_mesh",
+    "plan",
+    "read_mesh",
+    "write_mesh",
+]
+
+
+def read_mesh(path):
+    """The mesh of a text file (docs/MESHES.md)."""
+    return parse_mesh(Path(path).read_text(encoding="utf-8", errors="replace"), str(path))

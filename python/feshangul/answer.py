@@ -1,0 +1,131 @@
+"""A request planned: the planner's reply as routes over the mesh, or its refusal in words."""
+
+from __future__ import annotations
+
+from dataclasses import dataclass
+
+from . import records, rules
+from .fault import LibraryFault
+from .library import planner
+from .mesh import Mesh, Request
+
+VERDICTS = {rules.SETTLED: "settled", rules.STOPPED: "stopped"}
+
+
+@dataclass(frozen=True)
+class Route:
+    """A route by its arc numbers, with its nodes from source to terminal, its metres and its risks."""
+
+    arcs: tuple[int, ...]
+    nodes: tuple[int, ...]
+    metres: int
+    risks: frozenset[int]
+
+    @property
+    def kilometres(self):
+        return rules.kilometres(self.metres)
+
+
+@dataclass(frozen=True)
+class Pair:
+    """An answer: the number returned (0 settled, 1 stopped) and what the reply says."""
+
+    mesh: Mesh
+    request: Request
+    number: int
+    shared: int
+    floor: int
+    ranked: int
+    shared_risks: frozenset[int]
+    main: Route
+    standby: Route
+
+    @property
+    def verdict(self):
+        return VERDICTS[self.number]
+
+    @property
+    def total(self):
+        return self.main.metres + self.standby.metres
+
+    @property
+    def common_nodes(self):
+        """The nodes between the ends that both routes pass, in the main's order."""
+        return [n for n in self.main.nodes[1:-1] if n in self.standby.nodes]
+
+    @property
+    def common_spans(self):
+        """One arc of the main for each span that both routes pass, in the main's order. Spans are known where the mesh
+        was written by name; else only the very same arc is known to lie in the same span."""
+        crossed = {self._span(arc) for arc in self.standby.arcs}
+        return [arc for arc in self.main.arcs if self._span(arc) in crossed]
+
+    def _span(self, arc):
+        return self.mesh.arcs[arc].span if self.mesh.named else arc
+
+
+@dataclass(frozen=True)
+class Refusal:
+    """A request that was refused: the number, the words for it and, where it is about one arc, that arc's number."""
+
+    mesh: Mesh
+    request: Request
+    number: int
+    words: str
+    arc: int | None = None
+
+    verdict = "refused"
+
+
+def plan(mesh, request):
+    """Asks the proved planner, and returns a Pair or a Refusal."""
+    if any(request.spare):
+        return Refusal(mesh, request, 12, rules.REFUSALS[12])  # the request record of `routes`; a call has no such bytes
+    r = request
+    number, data = planner().plan(records.put_table(mesh.arcs), r.source, r.terminal, r.reach, r.allowance)
+    if number not in VERDICTS:
+        return _refusal(mesh, request, number)
+    return _pair(mesh, request, number, records.get_reply(data))
+
+
+def _refusal(mesh, request, number):
+    words = rules.REFUSALS.get(number, "a number that this version does not know")
+    if number == rules.ARC_FAULT:
+        for arc, record in enumerate(mesh.arcs):
+            fault = rules.arc_fault(record)
+            if fault:
+                return Refusal(mesh, request, number, f"{_place(arc, record)}: {fault}", arc)
+    return Refusal(mesh, request, number, words)
+
+
+def _place(arc, record):
+    return f"arc {arc}" if record.line is None else f"arc {arc}, line {record.line}"
+
+
+def _pair(mesh, request, number, reply):
+    """The reply is held against the mesh on the way, so that a library of another version, or a reply to another mesh, is
+    noticed and no sheet is made of it."""
+    main = _route(mesh, request, reply.main, reply.main_metres)
+    standby = _route(mesh, request, reply.standby, reply.standby_metres)
+    common = main.risks & standby.risks
+    _hold(reply.verdict == number, f"verdict {reply.verdict} beside number {number}")
+    _hold(reply.shared_risks == common and reply.shared == len(common), f"{reply.shared} shared where {len(common)} are")
+    _hold(reply.floor <= reply.shared, f"a floor of {reply.floor} under {reply.shared} shared")
+    _hold(1 <= reply.ranked <= request.allowance, f"{reply.ranked} ranked")
+    return Pair(mesh, request, number, reply.shared, reply.floor, reply.ranked, common, main, standby)
+
+
+def _route(mesh, request, numbers, metres):
+    nodes = [request.source]
+    for number in numbers:
+        _hold(number < len(mesh.arcs) and mesh.arcs[number].tail == nodes[-1], f"arc {number} from node {nodes[-1]}")
+        nodes.append(mesh.arcs[number].head)
+    arcs = [mesh.arcs[number] for number in numbers]
+    _hold(nodes[-1] == request.terminal, f"a route to node {nodes[-1]}")
+    _hold(sum(a.metres for a in arcs) == metres <= request.reach, f"a route of {metres} m")
+    return Route(tuple(numbers), tuple(nodes), metres, frozenset().union(*(a.risks for a in arcs)))
+
+
+def _hold(holds, found):
+    if not holds:
+        raise LibraryFault(f"the library's reply does not fit this mesh (it has {found}): is it of another version?")

@@ -1,0 +1,227 @@
+"""The command `feshangul`."""
+
+import argparse
+import contextlib
+import json
+import os
+import sys
+from dataclasses import replace
+
+from . import __version__, answer, names, records, rules, sheet, text, why
+from .fault import Fault, InputFault, OutputFault, clean, quoted
+from .line import Line
+from .mesh import Request
+
+STATUSES = "exit status: 0 settled, 1 stopped, 2 usage or input, 3 refused; the highest where a mesh has several requests"
+REFUSED = 3
+INPUT_MOST = 1 << 20  # bytes; no mesh that can be planned comes near
+
+
+def main(words=None):
+    """Runs the command and returns its exit status."""
+    try:
+        options = _parser().parse_args(words)
+        output, status = options.run(options)
+        _write(output)  # whole, and only here, so that a fault anywhere leaves standard output empty
+        return status
+    except Fault as fault:
+        print(f"feshangul: {fault}", file=sys.stderr)
+        return 2
+    except KeyboardInterrupt:
+        return 130
+
+
+def _write(output):
+    if sys.stdout is None:
+        raise OutputFault("standard output is closed")
+    if isinstance(output, str):
+        output = output.encode(sys.stdout.encoding, errors="backslashreplace")
+    try:
+        sys.stdout.buffer.write(output)
+        sys.stdout.flush()
+    except OSError as error:
+        with contextlib.suppress(OSError):  # what is left in the buffer would be written, and fail, once more
+            os.dup2(os.open(os.devnull, os.O_WRONLY), sys.stdout.fileno())
+        raise OutputFault(f"standard output: {error.strerror}") from None
+
+
+# ---- plan ----
+
+
+def _plan(options):
+    mesh = _asked(options, _read_mesh(options.mesh))
+    answers = [answer.plan(mesh, request) for request in mesh.requests]
+    write = _as_json if options.json else _as_sheet
+    output = ("" if options.json else "\n").join(write(found, options.why) for found in answers)
+    return output, max(_status(found) for found in answers)
+
+
+def _status(found):
+    return found.number if isinstance(found, answer.Pair) else REFUSED
+
+
+def _as_sheet(found, with_why):
+    return sheet.lines(found) + "\n" + sheet.words(found) + (why.words(found) if with_why else "")
+
+
+def _as_json(found, with_why):
+    fields = sheet.data(found)
+    if with_why:
+        better = why.least_reach(found)
+        fields["why"] = better and {"reach": better.reach, "shared": better.shared}
+    return json.dumps(fields, ensure_ascii=False) + "\n"
+
+
+def _asked(options, mesh):
+    """The mesh with the requests of the command line: each option stands for that field in every request of the file."""
+    given = {field: value for field, value in (("reach", options.reach), ("allowance", options.allowance)) if value is not None}
+    for field, option, word in (("source", "--from", options.source), ("terminal", "--to", options.terminal)):
+        if word is not None:
+            given[field] = _end(mesh, option, word)
+    requests = [replace(request, **given) for request in _chosen(options, mesh)]
+    if not requests:
+        if "source" not in given or "terminal" not in given:
+            raise InputFault(f'{_shown(options.mesh)} has no request: add a line "request A B", or give --from and --to')
+        requests = [Request(**given)]
+    return mesh.with_requests(*dict.fromkeys(requests))
+
+
+def _chosen(options, mesh):
+    if options.request is None:
+        return mesh.requests
+    if not 1 <= options.request <= len(mesh.requests):
+        raise InputFault(f"--request: expected 1 to {len(mesh.requests)}, found {options.request}")
+    return mesh.requests[options.request - 1 : options.request]
+
+
+def _end(mesh, option, word):
+    if not mesh.named:
+        return _option(option, word, lambda line: line.number("a node", text.BYTE, text.NODE_RANGE))
+    names = [site.name for site in mesh.sites]
+    if word not in names:
+        raise InputFault(f"{option}: expected a site of the mesh, found {quoted(word)}")
+    return names.index(word)
+
+
+def _option(option, word, read):
+    line = Line(word)
+    try:
+        value = read(line)
+        line.end()
+    except InputFault as fault:
+        raise InputFault(f"{option}: {fault}") from None
+    return value
+
+
+def _reach(word):
+    return _option("--reach", word, lambda line: line.metres("the reach", rules.REACH_MAX, text.REACH_RANGE))
+
+
+def _allowance(word):
+    return _option("--allowance", word, text.read_allowance)
+
+
+def _place(word):
+    return _option("--request", word, lambda line: line.number("a request's place", text.FOUR_BYTES, "1 on"))
+
+
+# ---- bytes and text ----
+
+
+def _bytes(options):
+    mesh = _asked(options, _read_mesh(options.mesh))
+    if len(mesh.requests) != 1:
+        raise InputFault(f"{_shown(options.mesh)}: expected one request, found {len(mesh.requests)}: choose by --request")
+    return records.put_request(mesh.requests[0]) + records.put_table(mesh.arcs), 0
+
+
+def _text(options):
+    mesh = records.get_mesh(_read(options.bytes), _shown(options.bytes))
+    if options.names:
+        mesh = names.given(mesh, _read_mesh(options.names), _shown(options.names))
+    return text.write(mesh), 0
+
+
+# ---- files ----
+
+
+def _shown(file):
+    return "standard input" if file == "-" else clean(file)
+
+
+def _read(file):
+    try:
+        if file == "-":
+            found = sys.stdin.buffer.read(INPUT_MOST + 1) if sys.stdin else b""
+        else:
+            with open(file, "rb") as opened:
+                found = opened.read(INPUT_MOST + 1)
+    except (OSError, ValueError) as error:
+        raise InputFault(f"{_shown(file)}: {getattr(error, 'strerror', None) or 'cannot be read'}") from None
+    if len(found) > INPUT_MOST:
+        raise InputFault(f"{_shown(file)}: longer than any mesh ({INPUT_MOST:,} bytes)")
+    return found
+
+
+def _read_mesh(file):
+    return text.read(_read(file).decode("utf-8", errors="replace"), _shown(file))
+
+
+# ---- words of the command line ----
+
+
+class _Parser(argparse.ArgumentParser):
+    def __init__(self, **given):
+        super().__init__(allow_abbrev=False, **given)
+
+    def error(self, message):
+        self.print_usage(sys.stderr)
+        self.exit(2, f"{self.prog}: {' '.join(_cut(word) for word in clean(message).split(' '))}\n")
+
+
+def _cut(word):
+    return word if len(word) <= 80 else word[:80] + "..."
+
+
+def _parser():
+    parser = _Parser(prog="feshangul", description="Plans pairs of fibre routes that share as few risks as possible.")
+    parser.add_argument("--version", action="version", version=f"feshangul {__version__}")
+    commands = parser.add_subparsers(metavar="COMMAND", required=True)
+
+    plan = commands.add_parser(
+        "plan",
+        help="plan the requests of a mesh",
+        epilog=STATUSES,
+        description="Plans each request of a mesh: prints the planner's reply as three lines, and then in words.",
+    )
+    _add_request(plan)
+    plan.add_argument("--json", action="store_true", help="print one JSON object a request, each on a line of its own")
+    plan.add_argument("--why", action="store_true", help="tell the least reach at which fewer risks would be shared")
+    plan.set_defaults(run=_plan)
+
+    to_bytes = commands.add_parser(
+        "bytes",
+        help="write a mesh as the bytes that `routes` reads",
+        description="Writes the request and the arcs of a mesh to standard output as records, docs/FORMATS.md.",
+    )
+    _add_request(to_bytes)
+    to_bytes.set_defaults(run=_bytes)
+
+    to_text = commands.add_parser(
+        "text",
+        help="write such bytes as a mesh",
+        description="Writes the mesh whose records are read, by number or with the names of another mesh.",
+    )
+    to_text.add_argument("bytes", metavar="BYTES", nargs="?", default="-", help="a file, or - for standard input")
+    to_text.add_argument("--names", metavar="MESH", help="write by name, with the sites and risks of this mesh")
+    to_text.set_defaults(run=_text)
+    return parser
+
+
+def _add_request(command):
+    command.add_argument("mesh", metavar="MESH", help="a mesh, docs/MESHES.md; - for standard input")
+    command.add_argument("--request", type=_place, metavar="K", help="only the mesh's K-th request, from 1")
+    command.add_argument("--from", dest="source", metavar="A", help="from this site, and not the mesh's own")
+    command.add_argument("--to", dest="terminal", metavar="B", help="to this site")
+    command.add_argument("--reach", type=_reach, metavar="LENGTH", help="how long a route may be: 80km, 80000m or 80000")
+    command.add_argument("--allowance", type=_allowance, metavar="N", help="how many mains may be tried")

@@ -1,0 +1,87 @@
+"""Records as bytes, little-endian (docs/FORMATS.md, "Records"): arcs and requests both ways, replies read."""
+
+from __future__ import annotations
+
+import struct
+from dataclasses import dataclass
+
+from .fault import InputFault
+from .mesh import Arc, Mesh, Request
+
+RECORD_BYTES = 16
+REPLY_BYTES = 96
+
+_ARC = struct.Struct("<BBHIQ")  # tail, head, spare, metres, risks
+_REQUEST = struct.Struct("<BBHIII")  # source, terminal, spare, reach, allowance, spare
+_REPLY = struct.Struct("<5B3x3I4xQ32s32s")
+
+
+def risks_field(risks):
+    return sum(1 << r for r in risks)
+
+
+def risks_of(risk_field):
+    return frozenset(r for r in range(64) if risk_field >> r & 1)
+
+
+def put_table(arcs):
+    return b"".join(_ARC.pack(a.tail, a.head, a.spare, a.metres, risks_field(a.risks)) for a in arcs)
+
+
+def put_request(r):
+    return _REQUEST.pack(r.source, r.terminal, r.spare[0], r.reach, r.allowance, r.spare[1])
+
+
+def get_mesh(data, where):
+    """The mesh of the bytes that `routes` reads, a request and then arcs; `where` names their place in a message."""
+    torn = len(data) % RECORD_BYTES
+    if not data or torn:
+        at = len(data) - torn
+        raise InputFault(f"{where} byte {at}: expected a record of {RECORD_BYTES} bytes, found {torn}")
+    source, terminal, low, reach, allowance, high = _REQUEST.unpack_from(data)
+    arcs = []
+    for tail, head, spare, metres, risk_field in _ARC.iter_unpack(data[RECORD_BYTES:]):
+        arcs.append(Arc(tail, head, metres, risks_of(risk_field), spare))
+    return Mesh(tuple(arcs), (Request(source, terminal, reach, allowance, (low, high)),))
+
+
+@dataclass(frozen=True)
+class Reply:
+    """The fields of a reply record; the two routes as lists of arc numbers."""
+
+    verdict: int
+    shared: int
+    floor: int
+    ranked: int
+    main_metres: int
+    standby_metres: int
+    shared_risks: frozenset[int]
+    main: tuple[int, ...]
+    standby: tuple[int, ...]
+
+
+def get_reply(data):
+    (
+        verdict,
+        shared,
+        floor,
+        main_arcs,
+        standby_arcs,
+        ranked,
+        main_metres,
+        standby_metres,
+        shared_field,
+        main,
+        standby,
+    ) = _REPLY.unpack(data)
+    return Reply(
+        verdict,
+        shared,
+        floor,
+        ranked,
+        main_metres,
+        standby_metres,
+        risks_of(shared_field),
+        tuple(main[:main_arcs]),
+        tuple(standby[:standby_arcs]),
+    )

@@ -1,0 +1,160 @@
+"""An answer as text: the lines that the program `routes` prints, a sheet in words, and JSON."""
+
+from . import rules
+from .answer import Pair
+
+
+def lines(answer):
+    """What `routes` prints for the same request (docs/FORMATS.md)."""
+    if not isinstance(answer, Pair):
+        return f"refused {answer.number}\n"
+    text = f"{answer.verdict} {answer.shared} {answer.floor} {answer.ranked}\n"
+    for role, route in (("main", answer.main), ("standby", answer.standby)):
+        text += " ".join([role, str(route.kilometres), *map(str, route.arcs)]) + "\n"
+    return text
+
+
+# ---- in words ----
+
+
+def words(answer):
+    """The sheet: what a planner asks of an answer, in words."""
+    text = _asked(answer)
+    if not isinstance(answer, Pair):
+        return text + f"Refused, number {answer.number}: {answer.words}.\n"
+    text += _verdict(answer) + _shared(answer) + _floor(answer) + _met(answer)
+    text += _route("Main", answer, answer.main)
+    if answer.main == answer.standby:
+        text += "Standby: the same route once more; it fails with the main.\n"
+    else:
+        text += _route("Standby", answer, answer.standby)
+    return text + f"Together {answer.total:,} m.\n"
+
+
+def _asked(answer):
+    mesh, r = answer.mesh, answer.request
+    return f"From {mesh.site(r.source)} to {mesh.site(r.terminal)}, each route within {r.reach:,} m.\n"
+
+
+def _verdict(pair):
+    mains = _counted(pair.ranked, "main")
+    at_floor = pair.shared == pair.floor
+    if pair.number == rules.SETTLED:
+        if at_floor:
+            why = "no pair within this reach shares fewer, and none that shares as few is shorter"
+        else:
+            why = "every route within this reach has been tried as main"
+        return f"Settled after {mains}: {why}. No larger allowance changes this pair.\n"
+    if at_floor:
+        why = "no pair within this reach shares fewer; only the length could still get better"
+    else:
+        why = f"a larger one may find a pair that shares fewer, {pair.floor} at best, or as few at less length"
+    return f"Stopped after {mains}, which is the allowance: {why}. A larger allowance never gives a worse pair.\n"
+
+
+def _shared(pair):
+    if not pair.shared:
+        return "Shared by both routes: no risk.\n"
+    return f"Shared by both routes: {_counted(pair.shared, 'risk')}: {_risks(pair.mesh, pair.shared_risks)}.\n"
+
+
+def _floor(pair):
+    if not pair.floor:
+        return "On every route within this reach: no risk.\n"
+    # A risk on every route is on both of these; where they share no others, the shared ones are just those.
+    names = f": {_risks(pair.mesh, pair.shared_risks)}" if pair.floor == pair.shared else ""
+    return f"On every route within this reach, and so in every pair: {_counted(pair.floor, 'risk')}{names}.\n"
+
+
+def _met(pair):
+    nodes = [pair.mesh.site(n) for n in pair.common_nodes]
+    spans = [pair.mesh.span(a) for a in pair.common_spans]
+    met = [f"{_counted(len(nodes), 'site')} ({', '.join(nodes)})"] if nodes else []
+    met += [f"{_counted(len(spans), 'span')} ({', '.join(spans)})"] if spans else []
+    if not met:
+        return "Between the ends they pass no common site and no common span.\n"
+    return f"Both routes pass {' and '.join(met)}.\n"
+
+
+def _route(role, pair, route):
+    mesh = pair.mesh
+    text = f"{role}: {route.metres:,} m, {route.kilometres:,} km: {', '.join(mesh.place(n) for n in route.nodes)}.\n"
+    for number in route.arcs:
+        arc = mesh.arcs[number]
+        ends = f"{mesh.short_site(arc.tail)} to {mesh.short_site(arc.head)}"
+        by = f"{mesh.span(number)}, arc {number}" if mesh.named else f"arc {number}"
+        risks = ", ".join(mesh.short_risk(r) for r in sorted(arc.risks)) or "no risk"
+        text += f"  {ends}: {arc.metres:,} m by {by}; {risks}\n"
+    return text
+
+
+def _risks(mesh, risks):
+    return ", ".join(mesh.risk(r) for r in sorted(risks))
+
+
+def _counted(number, thing):
+    return f"{number:,} {thing}{'' if number == 1 else 's'}"
+
+
+# ---- as data ----
+
+
+def data(answer):
+    """The answer as plain dictionaries and lists, for JSON (docs/MESHES.md has each field)."""
+    mesh, r = answer.mesh, answer.request
+    found = {
+        "verdict": answer.verdict,
+        "number": answer.number,
+        "from": _site(mesh, r.source),
+        "to": _site(mesh, r.terminal),
+        "reach": r.reach,
+        "allowance": r.allowance,
+    }
+    if not isinstance(answer, Pair):
+        line = None if answer.arc is None else mesh.arcs[answer.arc].line
+        return found | {"words": answer.words, "arc": answer.arc, "line": line}
+    shared = {
+        "count": answer.shared,
+        "risks": [_risk(mesh, n) for n in sorted(answer.shared_risks)],
+        "sites": [_site(mesh, n) for n in answer.common_nodes],
+        "spans": [mesh.span(a) for a in answer.common_spans],
+    }
+    return found | {
+        "shared": shared,
+        "floor": answer.floor,
+        "ranked": answer.ranked,
+        "metres": answer.total,
+        "main": _route_data(mesh, answer.main),
+        "standby": _route_data(mesh, answer.standby),
+    }
+
+
+def _site(mesh, node):
+    site = mesh.sites[node] if node < len(mesh.sites) else None
+    return {"number": node, "name": site and site.name, "title": site and site.title}
+
+
+def _risk(mesh, number):
+    risk = mesh.risks[number] if mesh.named else None
+    return {"number": number, "name": risk and risk.name, "title": risk and risk.title}
+
+
+def _route_data(mesh, route):
+    return {
+        "metres": route.metres,
+        "kilometres": route.kilometres,
+        "nodes": [_site(mesh, n) for n in route.nodes],
+        "arcs": [_arc(mesh, n) for n in route.arcs],
+    }
+
+
+def _arc(mesh, number):
+    arc = mesh.arcs[number]
+    return {
+        "number": number,
+        "span": mesh.span(number) if mesh.named else None,
+        "from": _site(mesh, arc.tail),
+        "to": _site(mesh, arc.head),
+        "metres": arc.metres,
+        "risks": [_risk(mesh, r) for r in sorted(arc.risks)],
+    }

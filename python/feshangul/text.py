@@ -1,0 +1,273 @@
+"""Meshes as people write them, by number or by name, and back (docs/MESHES.md)."""
+
+import difflib
+from decimal import Decimal
+
+from . import rules
+from .fault import InputFault, quoted
+from .line import Line
+from .mesh import Arc, Mesh, Request, Risk, Site
+
+NODE_RANGE = f"0 to {rules.NODES - 1}"
+RISK_RANGE = f"0 to {rules.RISKS - 1}"
+METRES_RANGE = f"0 to {rules.ARC_METRES_MAX:,} m"
+REACH_RANGE = f"0 to {rules.REACH_MAX:,} m"
+ALLOWANCE_RANGE = f"1 to {rules.ALLOWANCE_MAX:,}"
+
+# The widths of the fields in the records: the numbered form takes what the planner refuses, as long as a record holds it.
+BYTE = 2**8 - 1
+TWO_BYTES = 2**16 - 1
+FOUR_BYTES = 2**32 - 1
+
+KINDS = ("site", "risk", "span", "arc", "request")
+
+
+def read(text, where):
+    """The mesh of a text; `where` names the text in a message."""
+    text = text.removeprefix("\ufeff")  # a byte order mark
+    reader, number = None, 0
+    for number, whole in enumerate(text.split("\n"), 1):
+        line = Line(whole)
+        if line.is_empty():
+            continue
+        try:
+            if reader is None:
+                reader = _Named() if line.name_ahead() in KINDS else _Numbered()
+            reader.read(line, number)
+        except InputFault as fault:
+            raise InputFault(f"{where} line {number}: {fault}") from None
+    if reader is None:
+        raise InputFault(f"{where} line {number}: expected a mesh, found the end of the file")
+    return reader.mesh()
+
+
+# ---- by number: a request line, then one arc a line ----
+
+
+class _Numbered:
+    def __init__(self):
+        self.request = None
+        self.arcs = []
+
+    def read(self, line, number):
+        if self.request is None:
+            self.request = _read_request(line)
+        else:
+            self.arcs.append(_read_arc(line, len(self.arcs), number))
+
+    def mesh(self):
+        return Mesh(tuple(self.arcs), (self.request,))
+
+
+def _read_request(line):
+    if not line.take("from"):
+        raise line.expected('"from", or one of ' + ", ".join(f'"{k}"' for k in KINDS))
+    source = line.number("the source node", BYTE, NODE_RANGE)
+    line.need("to")
+    terminal = line.number("the terminal node", BYTE, NODE_RANGE)
+    line.need("reach")
+    reach = line.metres("the reach", FOUR_BYTES, REACH_RANGE)
+    line.need("allowance")
+    allowance = line.number("the allowance", FOUR_BYTES, ALLOWANCE_RANGE)
+    spare = (0, 0)
+    if line.take("spare"):
+        low = line.number("spare bytes 2-3", TWO_BYTES, f"0 to {TWO_BYTES}")
+        line.need(",")
+        spare = (low, line.number("spare bytes 12-15", FOUR_BYTES, f"0 to {FOUR_BYTES}"))
+    line.end()
+    return Request(source, terminal, reach, allowance, spare)
+
+
+def _read_arc(line, arc, number):
+    # An arc's number is its position. It is written all the same, so that a lost or doubled line is noticed.
+    wrong = line.expected(f"arc number {arc}")
+    try:
+        if line.number("", FOUR_BYTES, "") != arc:
+            raise wrong
+    except InputFault:
+        raise wrong from None
+    line.need(":")
+    tail = line.number("the tail node", BYTE, NODE_RANGE)
+    line.need(",")
+    head = line.number("the head node", BYTE, NODE_RANGE)
+    line.need(",")
+    metres = line.metres("the length", FOUR_BYTES, METRES_RANGE)
+    line.need(",")
+    risks = _read_risk_numbers(line)
+    spare = line.number("spare bytes 2-3", TWO_BYTES, f"0 to {TWO_BYTES}") if line.take("spare") else 0
+    line.end()
+    return Arc(tail, head, metres, risks, spare, line=number)
+
+
+def _read_risk_numbers(line):
+    line.need("{")
+    if line.take("}"):
+        return frozenset()
+    risks = []
+    while True:
+        risks.append(line.number("a risk", rules.RISKS - 1, RISK_RANGE))
+        _hold_once(risks, str(risks[-1]))
+        if line.take("}"):
+            return frozenset(risks)
+        if not line.take(","):
+            raise line.expected('"," or "}"')
+
+
+def _hold_once(risks, last):
+    """One named twice is more likely a slip of the pen for another than meant."""
+    if risks[-1] in risks[:-1]:
+        raise InputFault(f"expected each risk once, found {last} again")
+
+
+# ---- by name: sites, risks, spans, arcs and requests, each name declared above its first use ----
+
+
+class _Named:
+    def __init__(self):
+        self.sites, self.risks = {}, {}  # by name, in the order of their numbers
+        self.lines = {}  # where a site or a risk was declared
+        self.arcs, self.spans, self.requests = [], [], []
+
+    def read(self, line, number):
+        kind = line.name_ahead()
+        if kind not in KINDS:
+            raise line.expected(", ".join(f'"{k}"' for k in KINDS[:-1]) + f' or "{KINDS[-1]}"')
+        line.take(kind)
+        getattr(self, f"_read_{kind}")(line, number)
+        line.end()
+
+    def mesh(self):
+        sites, risks = tuple(self.sites.values()), tuple(self.risks.values())
+        return Mesh(tuple(self.arcs), tuple(self.requests), True, sites, risks, tuple(self.spans))
+
+    def _read_site(self, line, number):
+        name = self._declared(line, number, "site", self.sites, rules.NODES)
+        title, place = line.title(), None
+        if not line.is_empty():
+            latitude = line.decimal("a latitude", 90)
+            place = (Decimal(latitude), Decimal(line.decimal("a longitude", 180)))
+        self.sites[name] = Site(name, title, place)
+
+    def _read_risk(self, line, number):
+        name = self._declared(line, number, "risk", self.risks, rules.RISKS)
+        self.risks[name] = Risk(name, line.title())
+
+    def _declared(self, line, number, kind, known, most):
+        name = line.name(f"a {kind}'s name")
+        if name in known:
+            raise InputFault(f"{kind} {quoted(name)} stands on line {self.lines[kind, name]} already")
+        if len(known) == most:
+            raise InputFault(f"expected at most {most} {kind}s, found {quoted(name)} as one more")
+        self.lines[kind, name] = number
+        return name
+
+    def _read_span(self, line, number):
+        self._read_arcs(line, number, 2)
+
+    def _read_arc(self, line, number):
+        self._read_arcs(line, number, 1)
+
+    def _read_arcs(self, line, number, directions):
+        tail, head = self._site(line), self._site(line)
+        if tail == head:
+            raise InputFault("expected two different sites")
+        metres = line.metres("the length", rules.ARC_METRES_MAX, METRES_RANGE)
+        risks = self._read_risks(line)
+        if len(self.arcs) + directions > rules.ARCS:
+            raise InputFault(f"expected at most {rules.ARCS} arcs (a span is two), found arc {rules.ARCS + 1}")
+        for ends in ((tail, head), (head, tail))[:directions]:
+            self.arcs.append(Arc(*ends, metres, risks, span=len(self.spans), line=number))
+        self.spans.append(line.title())
+
+    def _read_risks(self, line):
+        if line.take("-"):
+            return frozenset()
+        risks = []
+        while True:
+            name = line.name('risks, as CHT,PRING, or "-" for none')
+            risks.append(_number_of(name, "risk", self.risks))
+            _hold_once(risks, quoted(name))
+            if not line.take(","):
+                return frozenset(risks)
+
+    def _read_request(self, line, _number):
+        source, terminal = self._site(line), self._site(line)
+        if source == terminal:
+            raise InputFault("expected two different sites")
+        given = {}
+        if line.take("reach"):
+            given["reach"] = line.metres("the reach", rules.REACH_MAX, REACH_RANGE)
+        if line.take("allowance"):
+            given["allowance"] = read_allowance(line)
+        self.requests.append(Request(source, terminal, **given))
+
+    def _site(self, line):
+        return _number_of(line.name("a site"), "site", self.sites)
+
+
+def read_allowance(line):
+    """An allowance that the planner takes."""
+    found = line.number("the allowance", rules.ALLOWANCE_MAX, ALLOWANCE_RANGE)
+    if found == 0:
+        raise InputFault(f"expected the allowance from {ALLOWANCE_RANGE}, found 0")
+    return found
+
+
+def _number_of(name, kind, known):
+    if name in known:
+        return list(known).index(name)
+    near = difflib.get_close_matches(name, known, 1)
+    hint = f"; is {quoted(near[0])} meant?" if near else ""
+    raise InputFault(f'expected a {kind} that a line "{kind} .." above declares, found {quoted(name)}{hint}')
+
+
+# ---- and back ----
+
+
+def write(mesh):
+    """The text of a mesh, in the form that it has."""
+    return _write_named(mesh) if mesh.named else _write_numbered(mesh)
+
+
+def _write_numbered(mesh):
+    (r,) = mesh.requests
+    spare = f" spare {r.spare[0]},{r.spare[1]}" if any(r.spare) else ""
+    lines = [f"from {r.source} to {r.terminal} reach {r.reach} allowance {r.allowance}{spare}"]
+    for number, a in enumerate(mesh.arcs):
+        spare = f" spare {a.spare}" if a.spare else ""
+        lines.append(f"{number}: {a.tail},{a.head},{a.metres},{braced(a.risks)}{spare}")
+    return "\n".join(lines) + "\n"
+
+
+def _write_named(mesh):
+    lines = [" ".join(["site", s.name, *_title(s.title), *map(str, s.place or ())]) for s in mesh.sites]
+    lines += [" ".join(["risk", r.name, *_title(r.title)]) for r in mesh.risks]
+    for span, title in enumerate(mesh.spans):
+        arcs = [a for a in mesh.arcs if a.span == span]
+        a = arcs[0]
+        risks = ",".join(mesh.risks[r].name for r in sorted(a.risks)) or "-"
+        ends = (mesh.sites[a.tail].name, mesh.sites[a.head].name)
+        lines.append(" ".join([KIND_OF[len(arcs)], *ends, _length(a.metres), risks, *_title(title)]))
+    for r in mesh.requests:
+        ends = f"{mesh.sites[r.source].name} {mesh.sites[r.terminal].name}"
+        lines.append(f"request {ends} reach {_length(r.reach)} allowance {r.allowance}")
+    return "\n".join(lines) + "\n"
+
+
+KIND_OF = {1: "arc", 2: "span"}
+
+
+def _title(title):
+    return [] if title is None else [f'"{title}"']
+
+
+def _length(metres):
+    """Exact, in kilometres from 1,000 m on."""
+    if metres < 1000:
+        return f"{metres}m"
+    return f"{metres // 1000}.{metres % 1000:03}".rstrip("0").rstrip(".") + "km"
+
+
+def braced(risks):
+    """Risks by number: {0,63}, rising."""
+    return "{" + ",".join(map(str, sorted(risks))) + "}"

@@ -1,0 +1,67 @@
+"""What a larger reach would bring, found by asking the planner."""
+
+from __future__ import annotations
+
+from dataclasses import dataclass, replace
+
+from . import rules
+from .answer import Pair, plan
+
+
+@dataclass(frozen=True)
+class Why:
+    """`reach` is the least at which fewer risks are shared or, where there was no route, at which there is one; `shared` is
+    how many then are. Both are None where no reach does that; `stopped` tells that the allowance ended the last try."""
+
+    reach: int | None
+    shared: int | None
+    stopped: bool
+
+
+def least_reach(answer):
+    """The least reach that betters an answer; None where none could: nothing is shared, or it was refused for a fault.
+
+    A larger reach only adds routes behind those of the ranking, so the best pair never shares more: what is better at one
+    reach is better at every larger one, and halving finds the least."""
+    if isinstance(answer, Pair) and answer.shared > 0:
+        most_shared = answer.shared - 1
+    elif answer.number == rules.NO_ROUTE:
+        most_shared = rules.RISKS
+    else:
+        return None
+    found = _at(answer, rules.REACH_MAX)
+    if not _betters(found, most_shared):
+        return Why(None, None, found.number == rules.STOPPED)
+    low, high = answer.request.reach, rules.REACH_MAX  # not better at low, better at high
+    while high - low > 1:
+        middle = (low + high) // 2
+        tried = _at(answer, middle)
+        if _betters(tried, most_shared):
+            high, found = middle, tried
+        else:
+            low = middle
+    return Why(high, found.shared, False)
+
+
+def _at(answer, reach):
+    return plan(answer.mesh, replace(answer.request, reach=reach))
+
+
+def _betters(answer, most_shared):
+    return isinstance(answer, Pair) and answer.shared <= most_shared
+
+
+def words(answer):
+    """The same in words."""
+    better = least_reach(answer)
+    refused = not isinstance(answer, Pair)
+    if better is None:
+        return "" if refused else "No reach makes it fewer: nothing is shared.\n"
+    if better.reach is None:
+        if refused:
+            return "No reach brings a route: none leads from one to the other.\n"
+        return f"No larger reach shares fewer{' with this allowance' if better.stopped else ''}.\n"
+    more = f"{better.reach:,} m, {better.reach - answer.request.reach:,} m more"
+    if refused:
+        return f"The least reach with a route is {more}.\n"
+    return f"The least reach at which fewer are shared is {more}: {better.shared} then.\n"
