@@ -33,7 +33,8 @@ def words(answer):
 
 def _asked(answer):
     mesh, r = answer.mesh, answer.request
-    return f"From {mesh.site(r.source)} to {mesh.site(r.terminal)}, each route within {r.reach:,} m.\n"
+    no_limit = ", which sets no limit" if r.reach == rules.REACH_MAX else ""
+    return f"From {mesh.site(r.source)} to {mesh.site(r.terminal)}, each route within {r.reach:,} m{no_limit}.\n"
 
 
 def _verdict(pair):
