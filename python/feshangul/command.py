@@ -15,6 +15,7 @@ from .mesh import Request
 STATUSES = "exit status: 0 settled, 1 stopped, 2 usage or input, 3 refused; the highest where a mesh has several requests"
 REFUSED = 3
 INPUT_MOST = 1 << 20  # bytes; no mesh that can be planned comes near
+LONGEST_MESSAGE = 200  # characters of a foreign text in one
 
 
 def main(words=None):
@@ -25,13 +26,15 @@ def main(words=None):
         _write(output)  # whole, and only here, so that a fault anywhere leaves standard output empty
         return status
     except Fault as fault:
-        print(f"feshangul: {fault}", file=sys.stderr)
+        if sys.stderr is not None:
+            print(f"feshangul: {fault}", file=sys.stderr)
         return 2
     except KeyboardInterrupt:
         return 130
 
 
 def _write(output):
+    """Bytes as they are; words for people in the terminal's encoding."""
     if sys.stdout is None:
         raise OutputFault("standard output is closed")
     if isinstance(output, str):
@@ -51,9 +54,10 @@ def _write(output):
 def _plan(options):
     mesh = _asked(options, _read_mesh(options.mesh))
     answers = [answer.plan(mesh, request) for request in mesh.requests]
-    write = _as_json if options.json else _as_sheet
-    output = ("" if options.json else "\n").join(write(found, options.why) for found in answers)
-    return output, max(_status(found) for found in answers)
+    status = max(_status(found) for found in answers)
+    if options.json:
+        return "".join(_as_json(found, options.why) for found in answers).encode(), status
+    return "\n".join(_as_sheet(found, options.why) for found in answers), status
 
 
 def _status(found):
@@ -139,14 +143,16 @@ def _text(options):
     mesh = records.get_mesh(_read(options.bytes), _shown(options.bytes))
     if options.names:
         mesh = names.given(mesh, _read_mesh(options.names), _shown(options.names))
-    return text.write(mesh), 0
+    return text.write(mesh).encode(), 0
 
 
 # ---- files ----
 
 
 def _shown(file):
-    return "standard input" if file == "-" else clean(file)
+    if file == "-":
+        return "standard input"
+    return clean(file if len(file) <= LONGEST_MESSAGE else "..." + file[-LONGEST_MESSAGE:])
 
 
 def _read(file):
@@ -176,11 +182,13 @@ class _Parser(argparse.ArgumentParser):
 
     def error(self, message):
         self.print_usage(sys.stderr)
-        self.exit(2, f"{self.prog}: {' '.join(_cut(word) for word in clean(message).split(' '))}\n")
+        self.exit(2, f"{self.prog}: {clean(message[:LONGEST_MESSAGE])}{'...' * (len(message) > LONGEST_MESSAGE)}\n")
 
-
-def _cut(word):
-    return word if len(word) <= 80 else word[:80] + "..."
+    def _print_message(self, message, file=None):
+        if file is sys.stdout:
+            _write(message)  # --help and --version: told where they cannot be written
+        else:
+            super()._print_message(message, file)
 
 
 def _parser():

@@ -40,10 +40,9 @@ class Loaded:
 
     def __init__(self, path):
         try:
-            library = ctypes.CDLL(str(path))
-        except OSError as error:
+            self._plan = ctypes.CDLL(str(path)).feshangul_plan
+        except (OSError, AttributeError) as error:
             raise LibraryFault(f"the planner's library cannot be loaded: {error}") from None
-        self._plan = library.feshangul_plan
         self._plan.restype = ctypes.c_uint32
         self._plan.argtypes = [ctypes.c_char_p, ctypes.c_size_t, ctypes.c_char_p, ctypes.c_size_t] + [ctypes.c_uint32] * 4
 

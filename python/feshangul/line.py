@@ -91,6 +91,8 @@ class Line:
         """What stands in double quotes, where something does; None otherwise."""
         found = self._take(_TITLE)
         if not found:
+            if self.take('"'):
+                raise InputFault("expected a quote at the end of the title, found the end of the line")
             return None
         if not found[1].isprintable():
             raise InputFault(f"expected a title that can be printed, found {quoted(found[1])}")

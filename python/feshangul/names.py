@@ -2,6 +2,7 @@
 
 from dataclasses import replace
 
+from . import rules
 from .fault import InputFault
 from .mesh import Mesh
 
@@ -15,6 +16,9 @@ def given(mesh, named, where):
     _hold_named(set().union(*(a.risks for a in mesh.arcs)), "risk", named.risks, where)
     if any(r.spare) or any(a.spare for a in mesh.arcs):
         raise InputFault("spare bytes that are not zero cannot be written by name")
+    fault = _fault(mesh)
+    if fault:
+        raise InputFault(f"what the planner refuses cannot be written by name: {fault}")
     if [replace(a, span=None) for a in named.arcs] == list(mesh.arcs):
         return replace(named, requests=mesh.requests)  # the same arcs: their spans and titles too
     arcs = _paired(mesh.arcs)
@@ -24,6 +28,21 @@ def given(mesh, named, where):
 def _hold_named(numbers, kind, known, where):
     if numbers and max(numbers) >= len(known):
         raise InputFault(f"{where} has no name for {kind} {max(numbers)}")
+
+
+def _fault(mesh):
+    """What the planner would refuse of a mesh whose nodes and risks have names, in words."""
+    r = mesh.requests[0]
+    for number, holds in (
+        (2, len(mesh.arcs) > rules.ARCS),
+        (6, r.source == r.terminal),
+        (7, r.reach > rules.REACH_MAX),
+        (8, not 1 <= r.allowance <= rules.ALLOWANCE_MAX),
+    ):
+        if holds:
+            return rules.REFUSALS[number]
+    faults = ((number, rules.arc_fault(arc)) for number, arc in enumerate(mesh.arcs))
+    return next((f"arc {number}: {fault}" for number, fault in faults if fault), None)
 
 
 def _paired(arcs):

@@ -240,7 +240,7 @@ def _write_numbered(mesh):
 
 
 def _write_named(mesh):
-    lines = [" ".join(["site", s.name, *_title(s.title), *map(str, s.place or ())]) for s in mesh.sites]
+    lines = [" ".join(["site", s.name, *_title(s.title), *(f"{degrees:f}" for degrees in s.place or ())]) for s in mesh.sites]
     lines += [" ".join(["risk", r.name, *_title(r.title)]) for r in mesh.risks]
     for span, title in enumerate(mesh.spans):
         arcs = [a for a in mesh.arcs if a.span == span]

@@ -1,0 +1,250 @@
+"""Answers: what the package makes of the planner's replies, of damaged ones and of refusals."""
+
+import random
+import struct
+import unittest
+from concurrent.futures import ThreadPoolExecutor
+from dataclasses import replace
+from unittest import mock
+
+import feshangul
+from feshangul import answer, library, text
+from feshangul.fault import LibraryFault
+from feshangul.mesh import Arc, Mesh, Request
+
+from .shared import EXAMPLES, damaged, example, small_mesh
+
+A = text.read(example("A.txt"), "A.txt")
+A1 = A.requests[0]
+
+# The reply to A1, as docs/FORMATS.md has it: settled, 0 shared, floor 0, two arcs each, ranked 2, 5,000 m each.
+A1_REPLY = (
+    struct.pack("<5B3x3I4xQ", 0, 0, 0, 2, 2, 2, 5000, 5000, 0)
+    + bytes([0, 1]).ljust(32, b"\xff")
+    + bytes([2, 3]).ljust(32, b"\xff")
+)
+
+
+def planner_that_replies(number, reply=bytes(96)):
+    """In place of the planner, one that replies so to every call."""
+    fake = mock.Mock()
+    fake.plan.return_value = (number, reply)
+    return mock.patch("feshangul.answer.planner", return_value=fake)
+
+
+def with_bytes(**at):
+    """The reply to A1 with other bytes at these places: at_8=b"..", and so on."""
+    reply = bytearray(A1_REPLY)
+    for place, put in at.items():
+        start = int(place.removeprefix("at_"))
+        reply[start : start + len(put)] = put
+    return bytes(reply)
+
+
+class Replies(unittest.TestCase):
+    def assert_noticed(self, found, request):
+        with self.assertRaises(LibraryFault) as raised:
+            answer.plan(A, request)
+        self.assertEqual(
+            str(raised.exception),
+            f"the library's reply does not fit this mesh (it has {found}): is it of another version?",
+        )
+
+    def test_the_planner_gives_the_reply_that_is_damaged_below(self):
+        self.assertEqual(
+            library.planner().plan(bytes.fromhex(
+                "00010000e80300000100000000000000"
+                "01030000a00f00000200000000000000"
+                "00020000a00f00000400000000000000"
+                "02030000e80300000800000000000000"
+                "01020000e80300001000000000000000"
+            ), 0, 3, 10000, 1000),
+            (0, A1_REPLY),
+        )
+
+    def test_a_reply_becomes_a_pair(self):
+        with planner_that_replies(0, A1_REPLY):
+            pair = answer.plan(A, A1)
+        self.assertEqual((pair.verdict, pair.number, pair.shared, pair.floor, pair.ranked), ("settled", 0, 0, 0, 2))
+        self.assertEqual((pair.main.arcs, pair.main.nodes, pair.main.metres, pair.main.risks), ((0, 1), (0, 1, 3), 5000, {0, 1}))
+        self.assertEqual((pair.standby.arcs, pair.standby.nodes, pair.standby.risks), ((2, 3), (0, 2, 3), {2, 3}))
+        self.assertEqual((pair.total, pair.shared_risks, pair.common_nodes, pair.common_spans), (10000, frozenset(), [], []))
+
+    def test_a_reply_that_does_not_fit_the_mesh_is_noticed(self):
+        for found, number, reply in (
+            ("verdict 0 beside number 1", 1, A1_REPLY),
+            ("verdict 1 beside number 0", 0, with_bytes(at_0=b"\x01")),
+            ("verdict 7 beside number 0", 0, with_bytes(at_0=b"\x07")),
+            ("1 shared where 0 are", 0, with_bytes(at_1=b"\x01")),
+            ("0 shared where 0 are", 0, with_bytes(at_24=b"\x01")),
+            ("1 shared where 0 are", 0, with_bytes(at_1=b"\x01", at_31=b"\x80")),
+            ("0 shared where 2 are", 0, with_bytes(at_64=b"\x00\x01")),
+            ("a floor of 1 under 0 shared", 0, with_bytes(at_2=b"\x01")),
+            ("0 ranked", 0, with_bytes(at_8=b"\x00")),
+            ("1001 ranked", 0, with_bytes(at_8=struct.pack("<I", 1001))),
+            ("4294967295 ranked", 0, with_bytes(at_8=b"\xff\xff\xff\xff")),
+            ("arc 5 from node 1", 0, with_bytes(at_33=b"\x05")),
+            ("arc 255 from node 1", 0, with_bytes(at_33=b"\xff")),
+            ("arc 255 from node 3", 0, with_bytes(at_3=b"\x03")),
+            ("arc 3 from node 1", 0, with_bytes(at_33=b"\x03")),
+            ("arc 1 from node 0", 0, with_bytes(at_32=b"\x01")),
+            ("arc 0 from node 2", 0, with_bytes(at_65=b"\x00")),
+            ("a route to node 0", 0, with_bytes(at_3=b"\x00")),
+            ("a route to node 1", 0, with_bytes(at_3=b"\x01")),
+            ("a route to node 2", 0, with_bytes(at_4=b"\x01")),
+            ("a route of 5001 m", 0, with_bytes(at_12=struct.pack("<I", 5001))),
+            ("a route of 6000 m", 0, with_bytes(at_16=struct.pack("<I", 6000))),
+        ):
+            with self.subTest(found), planner_that_replies(number, reply):
+                self.assert_noticed(found, A1)
+
+    def test_a_route_over_the_reach_is_noticed(self):
+        with planner_that_replies(0, A1_REPLY):
+            self.assert_noticed("a route of 5000 m", replace(A1, reach=4999))
+
+    def test_a_reply_to_another_mesh_is_noticed(self):
+        other = text.read(example("B.txt"), "B.txt")
+        with planner_that_replies(0, A1_REPLY), self.assertRaises(LibraryFault):
+            answer.plan(other, other.requests[0])
+
+
+class Refusals(unittest.TestCase):
+    def assert_refused(self, number, words, mesh, request):
+        found = answer.plan(mesh, request)
+        self.assertIsInstance(found, answer.Refusal)
+        self.assertEqual((found.verdict, found.number, found.words), ("refused", number, words))
+
+    def test_the_planner_refuses_a_request_with_number_and_words(self):
+        for number, words, change in (
+            (5, "source or terminal is no node: nodes are 0 to 31", {"source": 32}),
+            (5, "source or terminal is no node: nodes are 0 to 31", {"terminal": 255}),
+            (6, "source and terminal are the same node", {"terminal": 0}),
+            (7, "the reach is over 62,000,000 m", {"reach": 62_000_001}),
+            (8, "the allowance is not 1 to 1,000,000", {"allowance": 0}),
+            (8, "the allowance is not 1 to 1,000,000", {"allowance": 1_000_001}),
+            (10, "no route from source to terminal is within reach", {"reach": 2999}),
+            (10, "no route from source to terminal is within reach", {"source": 3, "terminal": 0}),
+            (12, "the spare bytes of the request are not zero", {"spare": (1, 0)}),
+            (12, "the spare bytes of the request are not zero", {"spare": (0, 1), "source": 40}),
+        ):
+            with self.subTest(change):
+                self.assert_refused(number, words, A, replace(A1, **change))
+
+    def test_a_table_that_is_too_long_is_refused(self):
+        self.assert_refused(2, "the table has more than 128 arcs", Mesh((Arc(0, 1, 5, frozenset()),) * 129), A1)
+        self.assert_refused(2, "the table has more than 128 arcs", Mesh((Arc(0, 1, 5, frozenset()),) * 60_000), A1)
+
+    def test_a_torn_table_is_refused(self):
+        # No mesh makes one, so the table is torn on its way to the planner.
+        with mock.patch("feshangul.records.put_table", return_value=bytes(17)):
+            self.assert_refused(3, "the table is no whole number of arcs", A, A1)
+
+    def test_a_short_reply_buffer_is_refused(self):
+        with mock.patch("feshangul.library.REPLY_BYTES", 95):
+            self.assert_refused(4, "the reply buffer is under 96 bytes", A, A1)
+
+    def test_a_faulty_arc_is_told_with_its_number_and_line(self):
+        for words, arc in (
+            ("tail node 32 is over 31", "32,1,5,{}"),
+            ("head node 255 is over 31", "0,255,5,{}"),
+            ("tail node 40 is over 31", "40,40,4294967295,{} spare 1"),
+            ("both ends are node 7", "7,7,2000001,{}"),
+            ("length 2,000,001 m is over 2,000,000", "0,1,2000001,{} spare 3"),
+            ("length 4,294,967,295 m is over 2,000,000", "0,1,4294967295,{}"),
+            ("the spare bytes are 256 and not zero", "0,1,5,{} spare 256"),
+        ):
+            with self.subTest(arc):
+                mesh = text.read(f"from 0 to 1 reach 10 allowance 1\n\n0: 0,1,5,{{}}\n# faulty:\n1: {arc}\n", "mesh")
+                self.assert_refused(9, f"arc 1, line 5: {words}", mesh, mesh.requests[0])
+                self.assertEqual(answer.plan(mesh, mesh.requests[0]).arc, 1)
+
+    def test_the_lowest_faulty_arc_of_several_is_told(self):
+        arcs = "0: 0,1,5,{}\n1: 0,1,5,{} spare 9\n2: 40,1,5,{}\n3: 1,1,5,{}\n"
+        mesh = text.read("from 0 to 1 reach 10 allowance 1\n" + arcs, "mesh")
+        self.assert_refused(9, "arc 1, line 3: the spare bytes are 9 and not zero", mesh, mesh.requests[0])
+
+    def test_a_faulty_arc_of_bytes_is_told_without_a_line(self):
+        mesh = Mesh((Arc(3, 3, 5, frozenset()),))
+        self.assert_refused(9, "arc 0: both ends are node 3", mesh, Request(0, 1))
+
+    def test_a_number_that_is_not_known_is_a_refusal(self):
+        for number in (11, 13, 4_294_967_295):
+            known = {11: "a route of the answer is over 62,000,000 m"}
+            with self.subTest(number), planner_that_replies(number):
+                self.assert_refused(number, known.get(number, "a number that this version does not know"), A, A1)
+
+    def test_a_fault_of_an_arc_that_is_not_found_is_told_in_general(self):
+        with planner_that_replies(9):
+            self.assert_refused(9, "an arc has a field outside its range", A, A1)
+
+
+class Library(unittest.TestCase):
+    def test_a_library_that_cannot_be_loaded_is_told(self):
+        with self.assertRaises(LibraryFault) as raised:
+            library.Loaded("/nonexistent/libfeshangul.so")
+        self.assertRegex(str(raised.exception), "^the planner's library cannot be loaded: /nonexistent/libfeshangul.so: ")
+
+    def test_a_library_without_the_planner_is_told(self):
+        with self.assertRaises(LibraryFault):
+            library.Loaded("libc.so.6")
+
+    def test_a_program_that_cannot_be_started_is_told(self):
+        with self.assertRaises(LibraryFault) as raised:
+            library.Served(["/nonexistent/feshangul-serve"])
+        self.assertRegex(str(raised.exception), "^the planner's program cannot be started: ")
+
+    def test_a_program_that_ends_without_an_answer_is_told_with_its_status(self):
+        for name, status in (("true", 0), ("false", 1)):
+            with self.subTest(name):
+                served = library.Served([name])
+                self.addCleanup(served.close)
+                with self.assertRaises(LibraryFault) as raised:
+                    served.plan(bytes(16), 0, 1, 5, 1)
+                self.assertEqual(str(raised.exception), f"the planner's program has ended with status {status}")
+
+    def test_another_system_than_linux_is_told(self):
+        with mock.patch("platform.system", return_value="Darwin"), self.assertRaises(LibraryFault) as raised:
+            library.planner.__wrapped__()
+        self.assertEqual(str(raised.exception), "the library is for Linux, and this is Darwin")
+
+    def test_a_machine_without_an_emulator_is_told_what_to_install(self):
+        here = mock.patch.multiple(library, X86_64=False)
+        with here, mock.patch("shutil.which", return_value=None), mock.patch("platform.machine", return_value="riscv64"):
+            with self.assertRaises(LibraryFault) as raised:
+                library.planner.__wrapped__()
+        self.assertEqual(
+            str(raised.exception),
+            "the planner is an x86-64 program and this machine is riscv64: install Debian's package qemu-user",
+        )
+
+    def test_threads_that_call_at_once_each_get_their_own_answer(self):
+        rng = random.Random(20)
+        meshes = [small_mesh(rng) for _ in range(100)]
+        meshes += [damaged(rng, mesh) for mesh in meshes]
+        one_by_one = [answer.plan(mesh, mesh.requests[0]) for mesh in meshes]
+        with ThreadPoolExecutor(8) as pool:
+            at_once = list(pool.map(lambda mesh: answer.plan(mesh, mesh.requests[0]), meshes))
+        self.assertEqual(at_once, one_by_one)
+
+
+class Package(unittest.TestCase):
+    def test_a_mesh_is_read_and_planned_with_what_the_package_names(self):
+        mesh = feshangul.read_mesh(EXAMPLES / "A.txt")
+        pair = feshangul.plan(mesh, mesh.requests[0])
+        self.assertEqual((pair.verdict, pair.main.metres, pair.standby.metres), ("settled", 5000, 5000))
+        self.assertEqual(feshangul.parse_mesh(feshangul.write_mesh(mesh), "again"), mesh)
+
+    def test_a_mesh_can_be_made_without_text(self):
+        risk = frozenset({63})
+        mesh = feshangul.Mesh((feshangul.Arc(0, 1, 7, risk), feshangul.Arc(0, 1, 9, risk)))
+        pair = feshangul.plan(mesh, feshangul.Request(0, 1))
+        self.assertEqual((pair.main.arcs, pair.standby.arcs, pair.shared_risks), ((0,), (0,), {63}))
+
+    def test_an_input_fault_is_a_fault(self):
+        with self.assertRaises(feshangul.Fault) as raised:
+            feshangul.parse_mesh("", "nothing")
+        self.assertIsInstance(raised.exception, feshangul.InputFault)
+
+
+if __name__ == "__main__":
+    unittest.main()

@@ -1,0 +1,501 @@
+"""Meshes as text: there and back, what may be written freely, and what is refused with which words."""
+
+import random
+import unittest
+from decimal import Decimal
+
+from feshangul import names, records, text
+from feshangul.fault import InputFault
+from feshangul.mesh import Request
+
+from .shared import A_HEX, EXAMPLES, example, without_comments
+
+NUMBERED = ("A.txt", "B.txt", "C.txt", "D.txt", "E.txt")
+
+
+def as_bytes(mesh):
+    (request,) = mesh.requests
+    return records.put_request(request) + records.put_table(mesh.arcs)
+
+
+class Examples(unittest.TestCase):
+    def test_every_example_is_numbered_or_europe(self):
+        self.assertEqual(sorted(path.name for path in EXAMPLES.glob("*.txt")), [*NUMBERED, "europe.txt"])
+
+    def test_a_numbered_example_is_written_as_it_stands_and_so_is_that_of_its_bytes(self):
+        for name in NUMBERED:
+            with self.subTest(name):
+                bare = without_comments(example(name))
+                mesh = text.read(example(name), name)
+                self.assertEqual(text.write(mesh), bare)
+                self.assertEqual(text.write(records.get_mesh(as_bytes(mesh), name)), bare)
+
+    def test_europe_is_written_as_it_stands_and_so_is_that_of_its_bytes_with_its_names(self):
+        bare = without_comments(example("europe.txt"))
+        mesh = text.read(example("europe.txt"), "europe.txt")
+        self.assertEqual(text.write(mesh), bare)
+        self.assertEqual(text.write(names.given(records.get_mesh(as_bytes(mesh), "bytes"), mesh, "europe.txt")), bare)
+
+    def test_mesh_a_is_the_bytes_written_out_by_hand(self):
+        self.assertEqual(as_bytes(text.read(example("A.txt"), "A.txt")).hex(), A_HEX)
+        back = records.get_mesh(bytes.fromhex(A_HEX), "bytes")
+        self.assertEqual(text.write(back), without_comments(example("A.txt")))
+
+
+# ---- random meshes by number: text and bytes made side by side from the same numbers ----
+
+
+def put(number, width):
+    return number.to_bytes(width, "little")
+
+
+def any_node(rng):
+    return rng.choice((rng.randrange(32), rng.randrange(32), rng.randrange(32), rng.choice((0, 1, 31, 32, 40, 255))))
+
+
+def any_metres(rng):
+    return rng.choice((0, 2_000_000, 4_294_967_295, rng.randrange(2_000_001), rng.randrange(2**32)))
+
+
+def any_spare(rng, width):
+    return rng.choice((0,) * 7 + (rng.randrange(256**width),))
+
+
+def random_request(rng):
+    source, terminal, reach, allowance = any_node(rng), any_node(rng), any_metres(rng), rng.randrange(2**32)
+    low, high = any_spare(rng, 2), any_spare(rng, 4)
+    line = f"from {source} to {terminal} reach {reach} allowance {allowance}"
+    line += f" spare {low},{high}\n" if low or high else "\n"
+    return line, put(source, 1) + put(terminal, 1) + put(low, 2) + put(reach, 4) + put(allowance, 4) + put(high, 4)
+
+
+def random_arc(rng, number):
+    tail, head, metres, spare = any_node(rng), any_node(rng), any_metres(rng), any_spare(rng, 2)
+    one_in = rng.randint(1, 64)
+    risks = [risk for risk in range(64) if rng.randrange(one_in) == 0]
+    line = f"{number}: {tail},{head},{metres},{{{','.join(map(str, risks))}}}"
+    line += f" spare {spare}\n" if spare else "\n"
+    return line, put(tail, 1) + put(head, 1) + put(spare, 2) + put(metres, 4) + put(sum(2**risk for risk in risks), 8)
+
+
+def random_numbered(rng, arcs):
+    made = [random_request(rng)] + [random_arc(rng, number) for number in range(arcs)]
+    return "".join(line for line, _ in made), b"".join(record for _, record in made)
+
+
+class RandomMeshesByNumber(unittest.TestCase):
+    def test_500_are_the_bytes_made_beside_them_and_those_bytes_are_written_as_the_same_text(self):
+        rng = random.Random(20)
+        for number in range(500):
+            arcs = {0: 0, 1: 128, 2: 129}.get(number % 50, rng.randrange(12))
+            written, data = random_numbered(rng, arcs)
+            with self.subTest(number):
+                self.assertEqual(as_bytes(text.read(written, "mesh")), data)
+                self.assertEqual(text.write(records.get_mesh(data, "bytes")), written)
+
+
+# ---- random meshes by name, in the form in which they are written ----
+
+TITLES = ("London", "Paris ring duct", "Halle # 4", "#", "", "Zürich Süd", "東京 駅", " - ", "reach 5km, {0}", "L'Étoile")
+LETTERS = "ABCdef019_éΩ東"
+
+
+def random_names(rng, count):
+    """Different names, some of one letter, with every mark that a name may have."""
+    found = set()
+    while len(found) < count:
+        rest = "".join(rng.choice(LETTERS + "./+-") for _ in range(rng.randrange(8)))
+        found.add(rng.choice(LETTERS) + rest)
+    return sorted(found)
+
+
+def random_title(rng):
+    return rng.choice(("", f' "{rng.choice(TITLES)}"'))
+
+
+def random_degrees(rng, most):
+    whole = rng.choice(("", "-")) + str(rng.randrange(most))
+    digits = "".join(rng.choice("0123456789") for _ in range(rng.randint(0, 9)))
+    return rng.choice((f"{whole}.{digits}" if digits else whole, str(most), f"-{most}"))
+
+
+def random_site(rng, name):
+    place = f" {random_degrees(rng, 90)} {random_degrees(rng, 180)}"
+    return f"site {name}{random_title(rng)}{rng.choice(('', place))}\n"
+
+
+def written_length(metres):
+    return f"{metres}m" if metres < 1000 else f"{Decimal(metres) / 1000:f}km"
+
+
+def random_length(rng, most):
+    some = (rng.randrange(most + 1), rng.randrange(most // 1000) * 1000)
+    return written_length(rng.choice((0, 999, 1000, 1001, 1200, most, *some)))
+
+
+def random_span(rng, kind, sites, risks):
+    # In the order of the risks' own lines, which is how they are written.
+    touched = [risk for risk in risks if rng.random() < 0.2]
+    tail, head = rng.sample(sites, 2)
+    return f"{kind} {tail} {head} {random_length(rng, 2_000_000)} {','.join(touched) or '-'}{random_title(rng)}\n"
+
+
+def random_asked(rng, sites):
+    reach, allowance = random_length(rng, 62_000_000), rng.choice((1, 1000, 1_000_000, rng.randint(1, 1_000_000)))
+    source, terminal = rng.sample(sites, 2)
+    return f"request {source} {terminal} reach {reach} allowance {allowance}\n"
+
+
+def random_named(rng, full):
+    """A mesh and how many requests it has; a full one has every site, risk and arc that there may be."""
+    sites = random_names(rng, 32 if full else rng.randint(2, 6))
+    risks = random_names(rng, 64 if full else rng.randint(0, 6))
+    kinds = ["span"] * 50 + ["arc"] * 28 if full else [rng.choice(("span", "arc")) for _ in range(rng.randrange(12))]
+    requests = rng.choice((0, 1, 1, 1, 2, 5))
+    rng.shuffle(kinds)
+    lines = [random_site(rng, name) for name in sites]
+    lines += [f"risk {name}{random_title(rng)}\n" for name in risks]
+    lines += [random_span(rng, kind, sites, risks) for kind in kinds]
+    lines += [random_asked(rng, sites) for _ in range(requests)]
+    return "".join(lines), requests
+
+
+class RandomMeshesByName(unittest.TestCase):
+    def test_500_are_written_as_they_stand_and_so_are_those_of_their_bytes_with_their_names(self):
+        rng = random.Random(20)
+        through_bytes = 0
+        for number in range(500):
+            written, requests = random_named(rng, number % 50 == 0)
+            with self.subTest(number):
+                mesh = text.read(written, "mesh")
+                self.assertEqual(text.write(mesh), written)
+                if requests == 1:
+                    through_bytes += 1
+                    back = names.given(records.get_mesh(as_bytes(mesh), "bytes"), mesh, "mesh")
+                    self.assertEqual(text.write(back), written)
+        self.assertGreater(through_bytes, 200)
+
+
+class PlacesOfSites(unittest.TestCase):
+    def test_latitude_and_longitude_are_kept_as_they_were_written(self):
+        site = text.read('site LON "London" 51.50 -0.12\n', "mesh").sites[0]
+        self.assertEqual(tuple(map(str, site.place)), ("51.50", "-0.12"))
+
+    def test_a_site_with_seven_digits_behind_the_point_is_written_as_it_stands(self):
+        for line in ("site A 51.4779280 -0.0014760\n", "site A 0.0000001 0\n", "site A 0.0000000 -0.0000000\n"):
+            with self.subTest(line):
+                self.assertEqual(text.write(text.read(line, "mesh")), line)
+
+    def test_the_poles_and_the_edges_of_the_map_are_places(self):
+        place = text.read("site A 90 -180\nsite B -90.0 180.0\n", "mesh").sites[1].place
+        self.assertEqual(place, (Decimal(-90), Decimal(180)))
+
+
+# ---- what a person may write otherwise ----
+
+STRICT = "from 0 to 3 reach 10000 allowance 1000\n0: 0,1,1000,{0,7,63}\n1: 1,3,4000,{}\n"
+NAMED = 'site A\nsite B "Bern" 46.95 7.45\nrisk R\nrisk S\nspan A B 1.2km R,S "Trunk"\nrequest A B reach 5km allowance 9\n'
+
+
+class FreeForms(unittest.TestCase):
+    def test_spaces_comments_and_line_ends_of_a_numbered_mesh_are_free(self):
+        for free in (
+            "# free spaces, comments and order\r\n\r\nfrom 0 to 3 reach 10000 allowance 1000\t# request\r\n"
+            " 0 : 0 , 1 , 01000 , { 0 , 63 , 7 } # arc\n1:1,3,4000,{}",
+            "\ufefffrom 0 to 3 reach 10000 allowance 1000\n\n\n0: 0,1,1000,{7,0,63}\n# between\n1: 1,3,4000,{ }\n\n",
+            "\tfrom\t0\tto\t3\treach\t10km\tallowance\t1000\n0:\t0,1,1km,{63,7,0}\n1: 1,3,4000m,{}#\n",
+        ):
+            with self.subTest(free):
+                self.assertEqual(text.write(text.read(free, "mesh")), STRICT)
+
+    def test_spaces_comments_and_line_ends_of_a_named_mesh_are_free(self):
+        for free in (
+            NAMED.replace("\n", "\r\n"),
+            "\ufeff" + NAMED.rstrip("\n"),
+            NAMED.replace(" ", "\t").replace("\n", "  # comment \"with one quote\n\n"),
+            '#\n\nsite A\nrisk R\nrisk S\n  site B"Bern"46.95 7.45\n'
+            'span A B 1200 S , R"Trunk"\nrequest A B reach 5000 allowance 09\n',
+            'risk R\nsite A\nsite B "Bern" 46.95 7.45\nrequest A B reach 5000m allowance 9\nrisk S\nspan A B 1200m R,S "Trunk"\n',
+        ):
+            with self.subTest(free):
+                self.assertEqual(text.write(text.read(free, "mesh")), NAMED)
+
+    def test_a_length_is_metres_or_kilometres(self):
+        for written, metres in (
+            ("1200", 1200),
+            ("1200m", 1200),
+            ("1.2km", 1200),
+            ("0.5km", 500),
+            ("1000.0", 1000),
+            ("1000.000m", 1000),
+            ("0001.2000km", 1200),
+            ("0", 0),
+            ("0km", 0),
+            ("0.001km", 1),
+            ("410.6km", 410_600),  # 410.6 * 1000 is less than that in binary fractions
+            ("2000km", 2_000_000),
+            ("2000000", 2_000_000),
+        ):
+            with self.subTest(written):
+                mesh = text.read(f"site A\nsite B\nspan A B {written} -\nrequest A B reach {written}\n", "mesh")
+                self.assertEqual((mesh.arcs[0].metres, mesh.requests[0].reach), (metres, metres))
+                numbered = text.read(f"from 0 to 1 reach {written} allowance 1\n0: 0,1,{written},{{}}\n", "mesh")
+                self.assertEqual((numbered.arcs[0].metres, numbered.requests[0].reach), (metres, metres))
+
+    def test_every_metre_is_read_as_it_was_written_in_kilometres(self):
+        rng = random.Random(20)
+        for metres in rng.sample(range(62_000_001), 1000):
+            mesh = text.read(f"from 0 to 1 reach {metres // 1000}.{metres % 1000:03}km allowance 1\n", "mesh")
+            self.assertEqual(mesh.requests[0].reach, metres)
+
+    def test_a_request_without_reach_and_allowance_has_no_limit_and_1000_mains(self):
+        ends = "site A\nsite B\n"
+        for line, asked in (
+            ("request A B", Request(0, 1, 62_000_000, 1000)),
+            ("request B A reach 62000km", Request(1, 0, 62_000_000, 1000)),
+            ("request A B allowance 1000000", Request(0, 1, 62_000_000, 1_000_000)),
+        ):
+            with self.subTest(line):
+                self.assertEqual(text.read(ends + line, "mesh").requests, (asked,))
+
+    def test_words_of_the_form_may_be_names(self):
+        declared = "site reach\nsite allowance\nrisk site\n"
+        mesh = text.read(declared + "span reach allowance 5 site\nrequest allowance reach reach 9\n", "mesh")
+        self.assertEqual(mesh.requests, (Request(1, 0, 9, 1000),))
+        self.assertEqual(mesh.arcs[0].risks, {0})
+
+    def test_a_span_is_two_arcs_and_each_knows_its_line(self):
+        mesh = text.read("site A\nsite B\nrisk R\n\nspan A B 7 R\narc B A 9 -\n", "mesh")
+        self.assertEqual([(a.tail, a.head, a.metres, set(a.risks), a.span, a.line) for a in mesh.arcs], [
+            (0, 1, 7, {0}, 0, 5),
+            (1, 0, 7, {0}, 0, 5),
+            (1, 0, 9, set(), 1, 6),
+        ])
+
+    def test_all_that_a_table_holds_can_be_written(self):
+        sites = "".join(f"site S{n}\n" for n in range(32))
+        risks = "".join(f"risk R{n}\n" for n in range(64))
+        mesh = text.read(sites + risks + "span S0 S31 2000km R0,R63\n" * 64, "mesh")
+        self.assertEqual((len(mesh.sites), len(mesh.risks), len(mesh.arcs)), (32, 64, 128))
+
+
+# ---- what is refused ----
+
+REQUEST = "from 0 to 3 reach 10000 allowance 1000\n"
+KINDS = '"from", or one of "site", "risk", "span", "arc", "request"'
+TO_LENGTH = "expected the length from 0 to 2,000,000 m"
+TO_REACH = "expected the reach from 0 to 62,000,000 m"
+FORMS = ", as 1200, 1200m or 1.2km"
+
+BY_NUMBER = (
+    ("1: expected a mesh, found the end of the file", ""),
+    ("3: expected a mesh, found the end of the file", "# only\n\n"),
+    (f'2: expected {KINDS}, found "0:"', "# no request\n0: 0,1,1000,{0}\n"),
+    ('1: expected the source node from 0 to 31, found "256"', "from 256 to 3 reach 1 allowance 1\n"),
+    ('1: expected "to", found "3"', "from 0 3 reach 1 allowance 1\n"),
+    ('1: expected the terminal node from 0 to 31, found "x"', "from 0 to x reach 1 allowance 1\n"),
+    (f'1: {TO_REACH}, found "4294967296"', "from 0 to 3 reach 4294967296 allowance 1\n"),
+    ('1: expected "allowance", found the end of the line', "from 0 to 3 reach 1\n"),
+    ('1: expected the allowance from 1 to 1,000,000, found "-1"', "from 0 to 3 reach 1 allowance -1\n"),
+    ('1: expected the end of the line, found "0:"', "from 0 to 3 reach 1 allowance 1 0: 0,1,1000,{0}\n"),
+    ('1: expected ",", found the end of the line', "from 0 to 3 reach 1 allowance 1 spare 7\n"),
+    ('4: expected arc number 1, found "2:"', REQUEST + "0: 0,1,1000,{0}\n\n2: 1,3,4000,{1}\n"),
+    ('3: expected arc number 1, found "0:"', REQUEST + "0: 0,1,1000,{0}\n0: 1,3,4000,{1}\n"),
+    ('3: expected arc number 1, found "from"', REQUEST + "0: 0,1,1000,{0}\n" + REQUEST),
+    ('2: expected ":", found "0,1,1000,{0}"', REQUEST + "0 0,1,1000,{0}\n"),
+    ('2: expected the tail node from 0 to 31, found "256,1,1000,{0}"', REQUEST + "0: 256,1,1000,{0}\n"),
+    ('2: expected the head node from 0 to 31, found "-1,1000,{0}"', REQUEST + "0: 0,-1,1000,{0}\n"),
+    (f'2: {TO_LENGTH}, found "4294967296,{{0}}"', REQUEST + "0: 0,1,4294967296,{0}\n"),
+    (f'2: {TO_LENGTH}, found "99999999999999999999,{{0}}"', REQUEST + "0: 0,1,99999999999999999999,{0}\n"),
+    (f'2: {TO_LENGTH}{FORMS}, found "+1,{{0}}"', REQUEST + "0: 0,1,+1,{0}\n"),
+    ('2: expected ",", found the end of the line', REQUEST + "0: 0,1,1000 # no risks\n"),
+    ('2: expected the length in whole metres, found "1000.5,{0}"', REQUEST + "0: 0,1,1000.5,{0}\n"),
+    ('2: expected "{", found "0"', REQUEST + "0: 0,1,1000,0\n"),
+    ('2: expected a risk from 0 to 63, found "64}"', REQUEST + "0: 0,1,1000,{0,64}\n"),
+    ('2: expected a risk from 0 to 63, found "}"', REQUEST + "0: 0,1,1000,{0,}\n"),
+    ("2: expected each risk once, found 5 again", REQUEST + "0: 0,1,1000,{5,0,5}\n"),
+    ('2: expected "," or "}", found the end of the line', REQUEST + "0: 0,1,1000,{0\n"),
+    ('2: expected spare bytes 2-3 from 0 to 65535, found "65536"', REQUEST + "0: 0,1,1000,{0} spare 65536\n"),
+    ('2: expected the end of the line, found "1:"', REQUEST + "0: 0,1,1000,{0} 1: 1,3,4000,{1}\n"),
+    ('131: expected arc number 129, found "x"', REQUEST + "".join(f"{n}: 0,1,1000,{{}}\n" for n in range(129)) + "x\n"),
+    ('1: expected spare bytes 12-15 from 0 to 4294967295, found "4294967296"', REQUEST.rstrip() + " spare 0,4294967296\n"),
+    (f'1: expected {KINDS}, found "sites"', "sites A\n"),
+    ('2: expected arc number 0, found "site"', REQUEST + "site A\n"),
+)
+
+HEAD = "site LONDON\nsite PARIS\nrisk TUNNEL\n"  # so that what follows stands on line 4
+SITE = 'expected a site that a line "site .." above declares, found'
+RISK = 'expected a risk that a line "risk .." above declares, found'
+RISKS = 'expected risks, as CHT,PRING, or "-" for none, found'
+ARCS = "expected at most 128 arcs (a span is two), found arc 129"
+NOT_CLOSED = "expected a quote at the end of the title, found the end of the line"
+LATITUDE = "expected a latitude from -90 to 90, found"
+LONGITUDE = "expected a longitude from -180 to 180, found"
+
+BY_NAME = (
+    ('4: expected "site", "risk", "span", "arc" or "request", found "link"', HEAD + "link LONDON PARIS 1 -\n"),
+    ('4: expected "site", "risk", "span", "arc" or "request", found "from"', HEAD + REQUEST),
+    ('4: expected "site", "risk", "span", "arc" or "request", found "sites"', HEAD + "sites ROME\n"),
+    ("4: expected a site's name, found the end of the line", HEAD + "site\n"),
+    ("4: expected a risk's name, found \"-\"", HEAD + "risk -\n"),
+    ('4: site "PARIS" stands on line 2 already', HEAD + "site PARIS\n"),
+    ('6: risk "TUNNEL" stands on line 3 already', HEAD + "\n# again\nrisk TUNNEL\n"),
+    ('33: expected at most 32 sites, found "S32" as one more', "".join(f"site S{n}\n" for n in range(33))),
+    ('65: expected at most 64 risks, found "R64" as one more', "".join(f"risk R{n}\n" for n in range(65))),
+    (f"132: {ARCS}", HEAD + "arc LONDON PARIS 1 -\n" * 129),
+    (f"68: {ARCS}", HEAD + "span LONDON PARIS 1 -\n" * 65),
+    (f"131: {ARCS}", HEAD + "arc LONDON PARIS 1 -\n" * 127 + "span LONDON PARIS 1 -\n"),
+    (f'4: {SITE} "ROME"', HEAD + "span LONDON ROME 1 -\n"),
+    (f'4: {SITE} "LODNON"; is "LONDON" meant?', HEAD + "arc PARIS LODNON 1 -\n"),
+    (f'4: {SITE} "PARI"; is "PARIS" meant?', HEAD + "request PARI LONDON\n"),
+    (f'2: {SITE} "PARIS"', "site LONDON\nspan LONDON PARIS 1 -\nsite PARIS\n"),
+    (f'4: {RISK} "DUCT"', HEAD + "span LONDON PARIS 1 TUNNEL,DUCT\n"),
+    (f'4: {RISK} "TUNEL"; is "TUNNEL" meant?', HEAD + "span LONDON PARIS 1 TUNEL\n"),
+    (f'4: {RISK} "LONDON"', HEAD + "span LONDON PARIS 1 LONDON\n"),
+    ("4: expected two different sites", HEAD + "span PARIS PARIS 1 -\n"),
+    ("4: expected two different sites", HEAD + "arc LONDON LONDON 1 -\n"),
+    ("4: expected two different sites", HEAD + "request LONDON LONDON\n"),
+    ("4: expected a site, found the end of the line", HEAD + "span LONDON\n"),
+    ('4: expected a site, found ","', HEAD + "request LONDON , PARIS\n"),
+    (f'4: {TO_LENGTH}, found "2000001"', HEAD + "span LONDON PARIS 2000001 -\n"),
+    (f'4: {TO_LENGTH}, found "2000.001km"', HEAD + "arc LONDON PARIS 2000.001km -\n"),
+    (f'4: {TO_LENGTH}{FORMS}, found "12x"', HEAD + "span LONDON PARIS 12x -\n"),
+    (f'4: {TO_LENGTH}{FORMS}, found "12.km"', HEAD + "span LONDON PARIS 12.km -\n"),
+    (f'4: {TO_LENGTH}{FORMS}, found ".5km"', HEAD + "span LONDON PARIS .5km -\n"),
+    (f'4: {TO_LENGTH}{FORMS}, found "1.2.3"', HEAD + "span LONDON PARIS 1.2.3 -\n"),
+    (f'4: {TO_LENGTH}{FORMS}, found "-1"', HEAD + "span LONDON PARIS -1 -\n"),
+    (f'4: {TO_LENGTH}{FORMS}, found "1e3"', HEAD + "span LONDON PARIS 1e3 -\n"),
+    (f'4: {TO_LENGTH}{FORMS}, found "TUNNEL"', HEAD + "span LONDON PARIS TUNNEL\n"),
+    (f"4: {TO_LENGTH}{FORMS}, found the end of the line", HEAD + "span LONDON PARIS\n"),
+    ('4: expected the length in whole metres, found "410.6004km"', HEAD + "span LONDON PARIS 410.6004km -\n"),
+    ('4: expected the length in whole metres, found "1000.5"', HEAD + "span LONDON PARIS 1000.5 -\n"),
+    (f"4: {RISKS} the end of the line", HEAD + "span LONDON PARIS 1\n"),
+    (f'4: {RISKS} ""Trunk""', HEAD + 'span LONDON PARIS 1 "Trunk"\n'),
+    (f"4: {RISKS} the end of the line", HEAD + "span LONDON PARIS 1 TUNNEL,\n"),
+    (f'4: {RISKS} "-"', HEAD + "span LONDON PARIS 1 TUNNEL,-\n"),
+    ('4: expected each risk once, found "TUNNEL" again', HEAD + "span LONDON PARIS 1 TUNNEL,TUNNEL\n"),
+    (f'4: {LATITUDE} "90.1"', HEAD + "site ROME 90.1 0\n"),
+    (f'4: {LATITUDE} "-90.0001"', HEAD + "site ROME -90.0001 0\n"),
+    (f'4: {LATITUDE} "north"', HEAD + "site ROME north 0\n"),
+    (f'4: {LONGITUDE} "180.5"', HEAD + "site ROME 41.9 180.5\n"),
+    (f'4: {LONGITUDE} "-181"', HEAD + "site ROME 41.9 -181\n"),
+    (f"4: {LONGITUDE} the end of the line", HEAD + "site ROME 41.9\n"),
+    (r'4: expected a title that can be printed, found "Ro\x1b[31mma"', HEAD + 'site ROME "Ro\x1b[31mma"\n'),
+    (r'4: expected a title that can be printed, found "Old\x09duct"', HEAD + 'risk DUCT "Old\tduct"\n'),
+    (r'4: expected a title that can be printed, found "\x9b"', HEAD + 'span LONDON PARIS 1 - "\x9b"\n'),
+    (f"4: {NOT_CLOSED}", HEAD + 'site ROME "Roma # not closed\n'),
+    (f"4: {NOT_CLOSED}", HEAD + 'risk DUCT "Old duct\n'),
+    (f"4: {NOT_CLOSED}", HEAD + 'span LONDON PARIS 1 - "Trunk # not closed\n'),
+    (f"4: {NOT_CLOSED}", HEAD + 'arc LONDON PARIS 1 - "\n'),
+    (f'4: {TO_REACH}, found "62000.001km"', HEAD + "request LONDON PARIS reach 62000.001km\n"),
+    (f'4: {TO_REACH}, found "62000001"', HEAD + "request LONDON PARIS reach 62000001\n"),
+    ('4: expected the reach in whole metres, found "0.0001km"', HEAD + "request LONDON PARIS reach 0.0001km\n"),
+    (f"4: {TO_REACH}{FORMS}, found the end of the line", HEAD + "request LONDON PARIS reach\n"),
+    ("4: expected the allowance from 1 to 1,000,000, found 0", HEAD + "request LONDON PARIS allowance 0\n"),
+    ('4: expected the allowance from 1 to 1,000,000, found "1000001"', HEAD + "request LONDON PARIS allowance 1000001\n"),
+    ('4: expected the end of the line, found "reach"', HEAD + "request LONDON PARIS allowance 9 reach 5km\n"),
+    ('4: expected the end of the line, found "9"', HEAD + "site ROME 41.9 12.5 9\n"),
+    ('4: expected the end of the line, found "9"', HEAD + 'risk DUCT "Old duct" 9\n'),
+    ('4: expected the end of the line, found "TUNNEL"', HEAD + "span LONDON PARIS 1 - TUNNEL\n"),
+    ('4: expected the end of the line, found ""more""', HEAD + 'arc LONDON PARIS 1 TUNNEL "Trunk" "more"\n'),
+    ('4: expected the end of the line, found "{0}"', HEAD + "request LONDON PARIS reach 5km allowance 9 {0}\n"),
+)
+
+
+class RefusalTest(unittest.TestCase):
+    def assert_refused(self, message, act, *given):
+        with self.assertRaises(InputFault) as raised:
+            act(*given)
+        self.assertEqual(str(raised.exception), message)
+
+
+class Refused(RefusalTest):
+    def test_a_faulty_mesh_by_number_is_told_with_its_line(self):
+        for message, faulty in BY_NUMBER:
+            with self.subTest(faulty):
+                self.assert_refused(f"mesh line {message}", text.read, faulty, "mesh")
+
+    def test_a_faulty_mesh_by_name_is_told_with_its_line(self):
+        for message, faulty in BY_NAME:
+            with self.subTest(faulty):
+                self.assert_refused(f"mesh line {message}", text.read, faulty, "mesh")
+
+    def test_torn_bytes_are_told_with_their_place(self):
+        for message, data in (
+            ("0: expected a record of 16 bytes, found 0", ""),
+            ("0: expected a record of 16 bytes, found 15", A_HEX[:30]),
+            ("16: expected a record of 16 bytes, found 1", A_HEX[:34]),
+            ("80: expected a record of 16 bytes, found 15", A_HEX[:190]),
+        ):
+            with self.subTest(data):
+                self.assert_refused(f"standard input byte {message}", records.get_mesh, bytes.fromhex(data), "standard input")
+
+    def test_a_long_word_is_cut_after_40_characters(self):
+        self.assert_refused(
+            f'mesh line 4: {SITE} "{"X" * 40}..."', text.read, HEAD + "request " + "X" * 500_000 + " PARIS\n", "mesh"
+        )
+
+
+# ---- names for bytes ----
+
+SOUND = "from 0 to 1 reach 5 allowance 1\n"
+TWO_NAMED = text.read('site A "Aachen"\nsite B\nsite C\nrisk R "Rhine"\nrisk S\n', "names.txt")
+
+
+class NamesForBytes(RefusalTest):
+    def given(self, numbered):
+        return names.given(text.read(numbered, "mesh"), TWO_NAMED, "names.txt")
+
+    def test_arcs_that_are_each_others_way_back_in_turn_become_a_span(self):
+        named = self.given(
+            "from 0 to 2 reach 5000 allowance 9\n"
+            "0: 0,1,1200,{0,1}\n1: 1,0,1200,{0,1}\n"  # a span
+            "2: 0,1,1200,{0,1}\n3: 1,0,1200,{0,1}\n4: 0,1,1200,{0,1}\n"  # its like, and a third way there
+            "5: 1,2,7,{}\n6: 2,1,8,{}\n"  # two lengths
+            "7: 1,2,7,{0}\n8: 2,1,7,{1}\n"  # two risks
+            "9: 0,2,0,{}\n10: 0,2,0,{}\n"  # the same way twice
+        )
+        self.assertEqual(text.write(named), (
+            'site A "Aachen"\nsite B\nsite C\nrisk R "Rhine"\nrisk S\n'
+            "span A B 1.2km R,S\nspan A B 1.2km R,S\narc A B 1.2km R,S\n"
+            "arc B C 7m -\narc C B 8m -\narc B C 7m R\narc C B 7m S\narc A C 0m -\narc A C 0m -\n"
+            "request A C reach 5km allowance 9\n"
+        ))
+
+    def test_a_mesh_without_arcs_gets_names_too(self):
+        written = text.write(self.given("from 2 to 1 reach 0 allowance 1\n"))
+        self.assertTrue(written.endswith("\nrisk S\nrequest C B reach 0m allowance 1\n"))
+
+    def test_what_has_no_name_is_told(self):
+        for message, numbered in (
+            ("names.txt has no name for node 3", "from 0 to 3 reach 5 allowance 1\n"),
+            ("names.txt has no name for node 255", "from 0 to 1 reach 5 allowance 1\n0: 3,255,1,{}\n"),
+            ("names.txt has no name for risk 2", "from 0 to 1 reach 5 allowance 1\n0: 0,1,1,{0,2}\n"),
+        ):
+            with self.subTest(numbered):
+                self.assert_refused(message, self.given, numbered)
+
+    def test_names_are_not_taken_from_a_mesh_by_number(self):
+        numbered = text.read(STRICT, "mesh")
+        self.assert_refused("A.txt has no names", names.given, numbered, numbered, "A.txt")
+
+    def test_what_the_planner_refuses_is_not_written_by_name(self):
+        # What would be written could not be read again.
+        refused = "what the planner refuses cannot be written by name"
+        for message, numbered in (
+            ("spare bytes that are not zero cannot be written by name", "from 0 to 1 reach 5 allowance 1 spare 1,0\n"),
+            ("spare bytes that are not zero cannot be written by name", SOUND + "0: 0,1,1,{} spare 1\n"),
+            (f"{refused}: source and terminal are the same node", "from 1 to 1 reach 5 allowance 1\n"),
+            (f"{refused}: the reach is over 62,000,000 m", "from 0 to 1 reach 62000001 allowance 1\n"),
+            (f"{refused}: the allowance is not 1 to 1,000,000", "from 0 to 1 reach 5 allowance 0\n"),
+            (f"{refused}: the allowance is not 1 to 1,000,000", "from 0 to 1 reach 5 allowance 1000001\n"),
+            (f"{refused}: arc 1: both ends are node 2", SOUND + "0: 0,1,5,{}\n1: 2,2,5,{}\n"),
+            (f"{refused}: arc 0: length 2,000,001 m is over 2,000,000", SOUND + "0: 0,1,2000001,{}\n"),
+            (f"{refused}: the table has more than 128 arcs", SOUND + "".join(f"{n}: 0,1,5,{{}}\n" for n in range(129))),
+        ):
+            with self.subTest(numbered):
+                self.assert_refused(message, self.given, numbered)
+
+
+if __name__ == "__main__":
+    unittest.main()
