@@ -110,7 +110,7 @@ def _pair(mesh, request, number, reply):
     common = main.risks & standby.risks
     _hold(reply.verdict == number, f"verdict {reply.verdict} beside number {number}")
     _hold(reply.shared_risks == common and reply.shared == len(common), f"{reply.shared} shared where {len(common)} are")
-    _hold(reply.floor <= reply.shared, f"a floor of {reply.floor} under {reply.shared} shared")
+    _hold(reply.floor <= reply.shared, f"a floor of {reply.floor} over {reply.shared} shared")
     _hold(1 <= reply.ranked <= request.allowance, f"{reply.ranked} ranked")
     return Pair(mesh, request, number, reply.shared, reply.floor, reply.ranked, common, main, standby)
 

@@ -79,7 +79,7 @@ class Replies(unittest.TestCase):
             ("0 shared where 0 are", 0, with_bytes(at_24=b"\x01")),
             ("1 shared where 0 are", 0, with_bytes(at_1=b"\x01", at_31=b"\x80")),
             ("0 shared where 2 are", 0, with_bytes(at_64=b"\x00\x01")),
-            ("a floor of 1 under 0 shared", 0, with_bytes(at_2=b"\x01")),
+            ("a floor of 1 over 0 shared", 0, with_bytes(at_2=b"\x01")),
             ("0 ranked", 0, with_bytes(at_8=b"\x00")),
             ("1001 ranked", 0, with_bytes(at_8=struct.pack("<I", 1001))),
             ("4294967295 ranked", 0, with_bytes(at_8=b"\xff\xff\xff\xff")),
