@@ -15,7 +15,7 @@ __version__ = "0.1.0"
 from pathlib import Path
 
 from .answer import Pair, Refusal, Route, plan
-from .fault import Fault, InputFault, LibraryFault
+from .fault import Fault, InputFault, LibraryFault, clean
 from .mesh import Arc, Mesh, Request, Risk, Site
 from .text import read as parse_mesh
 from .text import write as write_mesh
@@ -41,4 +41,4 @@ __all__ = [
 
 def read_mesh(path):
     """The mesh of a text file (docs/MESHES.md)."""
-    return parse_mesh(Path(path).read_text(encoding="utf-8", errors="replace"), str(path))
+    return parse_mesh(Path(path).read_bytes().decode("utf-8", errors="replace"), clean(str(path)))

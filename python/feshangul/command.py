@@ -91,7 +91,7 @@ def _asked(options, mesh):
 
 
 def _chosen(options, mesh):
-    if options.request is None:
+    if options.request is None or not mesh.requests:
         return mesh.requests
     if not 1 <= options.request <= len(mesh.requests):
         raise InputFault(f"--request: expected 1 to {len(mesh.requests)}, found {options.request}")
@@ -101,10 +101,10 @@ def _chosen(options, mesh):
 def _end(mesh, option, word):
     if not mesh.named:
         return _option(option, word, lambda line: line.number("a node", text.BYTE, text.NODE_RANGE))
-    names = [site.name for site in mesh.sites]
-    if word not in names:
-        raise InputFault(f"{option}: expected a site of the mesh, found {quoted(word)}")
-    return names.index(word)
+    sites = [site.name for site in mesh.sites]
+    if word not in sites:
+        raise InputFault(f"{option}: expected a site of the mesh, found {quoted(word)}{text.hint(word, sites)}")
+    return sites.index(word)
 
 
 def _option(option, word, read):
@@ -152,6 +152,8 @@ def _text(options):
 def _shown(file):
     if file == "-":
         return "standard input"
+    if not file:
+        return '""'
     return clean(file if len(file) <= LONGEST_MESSAGE else "..." + file[-LONGEST_MESSAGE:])
 
 
@@ -181,13 +183,14 @@ class _Parser(argparse.ArgumentParser):
         super().__init__(allow_abbrev=False, **given)
 
     def error(self, message):
-        self.print_usage(sys.stderr)
+        if sys.stderr is not None:
+            self.print_usage(sys.stderr)
         self.exit(2, f"{self.prog}: {clean(message[:LONGEST_MESSAGE])}{'...' * (len(message) > LONGEST_MESSAGE)}\n")
 
     def _print_message(self, message, file=None):
         if file is sys.stdout:
             _write(message)  # --help and --version: told where they cannot be written
-        else:
+        elif file is not None:
             super()._print_message(message, file)
 
 

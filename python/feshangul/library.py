@@ -13,7 +13,7 @@ import subprocess
 import threading
 from pathlib import Path
 
-from .fault import LibraryFault
+from .fault import LibraryFault, clean
 from .records import REPLY_BYTES
 
 SONAME = "libfeshangul.so.0"
@@ -32,7 +32,7 @@ def planner():
         raise LibraryFault(f"the library is for Linux, and this is {platform.system()}")
     if X86_64 and not os.environ.get("FESHANGUL_SERVE"):
         return Loaded(_library())
-    return Served([*_emulator(), str(_serve())])
+    return Served([*_emulator(), _serve()])
 
 
 class Loaded:
@@ -92,7 +92,7 @@ def _library():
     given = os.environ.get("FESHANGUL_LIBRARY")
     for path in [given] if given else [RELEASE / "libfeshangul.so", INSTALLED / SONAME]:
         if os.path.exists(path):
-            return path
+            return os.path.abspath(path)
     return given or SONAME  # wherever the system's loader finds it
 
 
@@ -100,8 +100,8 @@ def _serve():
     given = os.environ.get("FESHANGUL_SERVE")
     for path in [given] if given else [RELEASE / SERVE, INSTALLED / "feshangul" / SERVE]:
         if os.path.exists(path):
-            return path
-    raise LibraryFault(f"the program {SERVE} is not there; it comes with the release")
+            return os.path.abspath(path)
+    raise LibraryFault(f"the program {clean(given or SERVE)} is not there; it comes with the release")
 
 
 def _emulator():

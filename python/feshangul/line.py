@@ -1,6 +1,7 @@
 """One line of a mesh, read from left to right. Whatever does not fit says what was expected and what stood there instead."""
 
 import re
+from decimal import Decimal
 
 from .fault import InputFault, quoted
 
@@ -74,12 +75,12 @@ class Line:
         return metres
 
     def decimal(self, what, most):
-        """A decimal number from -most to most, as it is written."""
+        """A decimal number from -most to most, with every digit that is written."""
         found = _DECIMAL.match(self.text, self.at)
-        if not found or len(found[0]) > 20 or abs(float(found[0])) > most:
+        if not found or abs(Decimal(found[0])) > most:
             raise self.expected(f"{what} from -{most} to {most}")
         self._step(found.end())
-        return found[0]
+        return Decimal(found[0])
 
     def name(self, what):
         found = self._take(_NAME)

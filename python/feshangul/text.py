@@ -1,7 +1,6 @@
 """Meshes as people write them, by number or by name, and back (docs/MESHES.md)."""
 
 import difflib
-from decimal import Decimal
 
 from . import rules
 from .fault import InputFault, quoted
@@ -144,8 +143,8 @@ class _Named:
         name = self._declared(line, number, "site", self.sites, rules.NODES)
         title, place = line.title(), None
         if not line.is_empty():
-            latitude = line.decimal("a latitude", 90)
-            place = (Decimal(latitude), Decimal(line.decimal("a longitude", 180)))
+            latitude = line.decimal("a latitude" if title is not None else "a title in quotes, or a latitude", 90)
+            place = (latitude, line.decimal("a longitude", 180))
         self.sites[name] = Site(name, title, place)
 
     def _read_risk(self, line, number):
@@ -216,9 +215,14 @@ def read_allowance(line):
 def _number_of(name, kind, known):
     if name in known:
         return list(known).index(name)
-    near = difflib.get_close_matches(name, known, 1)
-    hint = f"; is {quoted(near[0])} meant?" if near else ""
-    raise InputFault(f'expected a {kind} that a line "{kind} .." above declares, found {quoted(name)}{hint}')
+    raise InputFault(f'expected a {kind} that a line "{kind} .." above declares, found {quoted(name)}{hint(name, known)}')
+
+
+def hint(name, known):
+    """The known name that was most likely meant, as the end of a message; nothing where none is near."""
+    alike = {one.casefold(): one for one in known}
+    near = difflib.get_close_matches(name.casefold(), alike, 1)
+    return f"; is {quoted(alike[near[0]])} meant?" if near else ""
 
 
 # ---- and back ----

@@ -11,7 +11,8 @@ from .answer import Pair, plan
 @dataclass(frozen=True)
 class Why:
     """`reach` is the least at which fewer risks are shared or, where there was no route, at which there is one; `shared` is
-    how many then are. Both are None where no reach does that; `stopped` tells that the allowance ended the last try."""
+    how many then are. Both are None where no reach does that; `stopped` tells that a larger allowance might, since it was
+    the allowance that ended the last try."""
 
     reach: int | None
     shared: int | None
@@ -31,7 +32,7 @@ def least_reach(answer):
         return None
     found = _at(answer, rules.REACH_MAX)
     if not _betters(found, most_shared):
-        return Why(None, None, found.number == rules.STOPPED)
+        return Why(None, None, found.number == rules.STOPPED and found.shared > found.floor)
     low, high = answer.request.reach, rules.REACH_MAX  # not better at low, better at high
     while high - low > 1:
         middle = (low + high) // 2

@@ -30,6 +30,23 @@ A_HEX = (
     "01020000e80300001000000000000000"
 )
 
+# And the sheet of its answer.
+A_SHEET = """\
+From node 0 to node 3, each route within 10,000 m.
+Settled after 2 mains: no pair within this reach shares fewer, and none that shares as few is shorter. \
+No larger allowance changes this pair.
+Shared by both routes: no risk.
+On every route within this reach: no risk.
+Between the ends they pass no common site and no common span.
+Main: 5,000 m, 5 km: node 0, node 1, node 3.
+  node 0 to node 1: 1,000 m by arc 0; risk 0
+  node 1 to node 3: 4,000 m by arc 1; risk 1
+Standby: 5,000 m, 5 km: node 0, node 2, node 3.
+  node 0 to node 2: 4,000 m by arc 2; risk 2
+  node 2 to node 3: 1,000 m by arc 3; risk 3
+Together 10,000 m.
+"""
+
 
 def example(name):
     return (EXAMPLES / name).read_text(encoding="utf-8")
@@ -54,13 +71,19 @@ class Ran(NamedTuple):
 def run(*words, program=(sys.executable, COMMAND), stdin=b"", stdout=subprocess.PIPE, settings=(), folder=None):
     """Runs the command as a process; `settings` go into its environment."""
     done = subprocess.run(
-        [*program, *words], input=stdin, stdout=stdout, stderr=subprocess.PIPE, cwd=folder, env=environment(settings),
-        timeout=60, check=False,
+        [*program, *words],
+        input=stdin,
+        stdout=stdout,
+        stderr=subprocess.PIPE,
+        cwd=folder,
+        env=_environment(settings),
+        timeout=60,
+        check=False,
     )
     return _without_traceback(Ran(done.returncode, done.stdout, done.stderr))
 
 
-def environment(settings=()):
+def _environment(settings):
     """That of this process, without what changes how Python writes, and so that no run leaves files behind."""
     kept = {name: value for name, value in os.environ.items() if not name.startswith("PYTHON")}
     return {**kept, "PYTHONDONTWRITEBYTECODE": "1", **dict(settings)}
@@ -82,7 +105,7 @@ def _stream(errors):
 
 
 def _without_traceback(ran):
-    if b"Traceback" in ran.errors:
+    if b"Traceback" in ran.errors or b"Exception ignored" in ran.errors:  # the latter where Python itself ends badly
         raise AssertionError(ran.errors.decode(errors="replace"))
     return ran
 

@@ -52,13 +52,19 @@ class Replies(unittest.TestCase):
 
     def test_the_planner_gives_the_reply_that_is_damaged_below(self):
         self.assertEqual(
-            library.planner().plan(bytes.fromhex(
-                "00010000e80300000100000000000000"
-                "01030000a00f00000200000000000000"
-                "00020000a00f00000400000000000000"
-                "02030000e80300000800000000000000"
-                "01020000e80300001000000000000000"
-            ), 0, 3, 10000, 1000),
+            library.planner().plan(
+                bytes.fromhex(
+                    "00010000e80300000100000000000000"
+                    "01030000a00f00000200000000000000"
+                    "00020000a00f00000400000000000000"
+                    "02030000e80300000800000000000000"
+                    "01020000e80300001000000000000000"
+                ),
+                0,
+                3,
+                10000,
+                1000,
+            ),
             (0, A1_REPLY),
         )
 
@@ -97,6 +103,20 @@ class Replies(unittest.TestCase):
         ):
             with self.subTest(found), planner_that_replies(number, reply):
                 self.assert_noticed(found, A1)
+
+    def test_no_single_wrong_bit_leads_to_other_routes(self):
+        # What is left unnoticed are bytes that say nothing (5-7, 20-23, behind a route) and a ranked within the allowance.
+        with planner_that_replies(0, A1_REPLY):
+            right = answer.plan(A, A1)
+        for bit in range(8 * 96):
+            reply = bytearray(A1_REPLY)
+            reply[bit // 8] ^= 1 << bit % 8
+            with self.subTest(bit), planner_that_replies(0, bytes(reply)):
+                try:
+                    found = answer.plan(A, A1)
+                except LibraryFault:
+                    continue
+                self.assertEqual(replace(found, ranked=2), right)
 
     def test_a_route_over_the_reach_is_noticed(self):
         with planner_that_replies(0, A1_REPLY):
@@ -208,8 +228,8 @@ class Library(unittest.TestCase):
         self.assertEqual(str(raised.exception), "the library is for Linux, and this is Darwin")
 
     def test_a_machine_without_an_emulator_is_told_what_to_install(self):
-        here = mock.patch.multiple(library, X86_64=False)
-        with here, mock.patch("shutil.which", return_value=None), mock.patch("platform.machine", return_value="riscv64"):
+        machine = mock.patch("platform.machine", return_value="riscv64")
+        with machine, mock.patch.object(library, "X86_64", False), mock.patch("shutil.which", return_value=None):
             with self.assertRaises(LibraryFault) as raised:
                 library.planner.__wrapped__()
         self.assertEqual(

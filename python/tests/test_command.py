@@ -16,31 +16,27 @@ import feshangul
 from feshangul import library, records
 from feshangul.fault import LibraryFault
 
-from .shared import A_HEX, COMMAND, EXAMPLES, RELEASE, REPOSITORY, CommandTest, Ran, call, damaged, example, run, small_mesh
-from .shared import without_comments
+from .shared import (
+    A_HEX,
+    A_SHEET,
+    COMMAND,
+    EXAMPLES,
+    RELEASE,
+    REPOSITORY,
+    CommandTest,
+    Ran,
+    call,
+    damaged,
+    example,
+    run,
+    small_mesh,
+    without_comments,
+)
 
 A = EXAMPLES / "A.txt"
 EUROPE = EXAMPLES / "europe.txt"
 
-A_OUTPUT = b"""\
-settled 0 0 2
-main 5 0 1
-standby 5 2 3
-
-From node 0 to node 3, each route within 10,000 m.
-Settled after 2 mains: no pair within this reach shares fewer, and none that shares as few is shorter. \
-No larger allowance changes this pair.
-Shared by both routes: no risk.
-On every route within this reach: no risk.
-Between the ends they pass no common site and no common span.
-Main: 5,000 m, 5 km: node 0, node 1, node 3.
-  node 0 to node 1: 1,000 m by arc 0; risk 0
-  node 1 to node 3: 4,000 m by arc 1; risk 1
-Standby: 5,000 m, 5 km: node 0, node 2, node 3.
-  node 0 to node 2: 4,000 m by arc 2; risk 2
-  node 2 to node 3: 1,000 m by arc 3; risk 3
-Together 10,000 m.
-"""
+A_OUTPUT = f"settled 0 0 2\nmain 5 0 1\nstandby 5 2 3\n\n{A_SHEET}".encode()
 
 # Two ways from A to B, settled after two mains; none to C.
 NAMED = 'site A "Zürich"\nsite B\nsite C\nrisk R "Rhine"\nrisk S\nspan A B 1km R\nspan A B 3km S "Süd"\n'
@@ -76,12 +72,19 @@ class Statuses(CommandTest):
                 self.assertEqual(call("plan", self.file(NAMED + requests)).status, status)
 
     def test_a_refusal_by_the_planner_is_an_answer_on_standard_output(self):
-        self.assertEqual(call("plan", A, "--reach", "2999"), Ran(3, b"""\
+        self.assertEqual(
+            call("plan", A, "--reach", "2999"),
+            Ran(
+                3,
+                b"""\
 refused 10
 
 From node 0 to node 3, each route within 2,999 m.
 Refused, number 10: no route from source to terminal is within reach.
-""", b""))
+""",
+                b"",
+            ),
+        )
 
     def test_an_interrupt_ends_quietly_with_130(self):
         with mock.patch("feshangul.answer.planner", side_effect=KeyboardInterrupt):
@@ -133,10 +136,25 @@ class HelpAndVersion(CommandTest):
     def test_help_names_every_command_and_option(self):
         for words, told in (
             (("--help",), ("usage: feshangul", "plan", "bytes", "text", "--version")),
-            (("plan", "--help"), ("usage: feshangul plan", "MESH", "--request K", "--from A", "--to B", "--reach LENGTH",
-                                  "--allowance N", "--json", "--why", "0 settled, 1 stopped, 2 usage or input, 3 refused")),
-            (("bytes", "--help"), ("usage: feshangul bytes", "MESH", "--request K", "--from A", "--to B", "--reach LENGTH",
-                                   "--allowance N")),
+            (
+                ("plan", "--help"),
+                (
+                    "usage: feshangul plan",
+                    "MESH",
+                    "--request K",
+                    "--from A",
+                    "--to B",
+                    "--reach LENGTH",
+                    "--allowance N",
+                    "--json",
+                    "--why",
+                    "0 settled, 1 stopped, 2 usage or input, 3 refused",
+                ),
+            ),
+            (
+                ("bytes", "--help"),
+                ("usage: feshangul bytes", "MESH", "--request K", "--from A", "--to B", "--reach LENGTH", "--allowance N"),
+            ),
             (("text", "--help"), ("usage: feshangul text", "BYTES", "--names MESH")),
         ):
             with self.subTest(words):
@@ -175,7 +193,11 @@ class HelpAndVersion(CommandTest):
 class Requests(CommandTest):
     def test_several_requests_are_answered_in_turn_with_a_blank_line_between(self):
         ran = call("plan", self.file("site A\nsite B\nsite C\nrequest A C reach 9km\nrequest B C\n"))
-        self.assertEqual(ran, Ran(3, b"""\
+        self.assertEqual(
+            ran,
+            Ran(
+                3,
+                b"""\
 refused 10
 
 From A to C, each route within 9,000 m.
@@ -185,7 +207,10 @@ refused 10
 
 From B to C, each route within 62,000,000 m, which sets no limit.
 Refused, number 10: no route from source to terminal is within reach.
-""", b""))
+""",
+                b"",
+            ),
+        )
 
     def test_why_follows_the_sheet(self):
         self.assertEqual(call("plan", A, "--why"), Ran(0, A_OUTPUT + b"No reach makes it fewer: nothing is shared.\n", b""))
@@ -246,9 +271,14 @@ Refused, number 10: no route from source to terminal is within reach.
                 self.assert_told(call("plan", A, *words), message)
 
     def test_an_end_that_a_named_mesh_does_not_have_is_told(self):
-        for option, word in (("--from", "0"), ("--to", "lon"), ("--to", "LON ")):
+        for option, word, hint in (
+            ("--from", "0", ""),
+            ("--to", "lon", '; is "LON" meant?'),
+            ("--to", "LON ", '; is "LON" meant?'),
+        ):
             with self.subTest(word):
-                self.assert_told(call("plan", EUROPE, option, word), f'{option}: expected a site of the mesh, found "{word}"')
+                told = f'{option}: expected a site of the mesh, found "{word}"{hint}'
+                self.assert_told(call("plan", EUROPE, option, word), told)
 
 
 # ---- JSON ----
@@ -492,7 +522,7 @@ class Files(CommandTest):
         self.assertEqual((ran.status, ran.errors), (3, b""))
         self.assertIn("From Z\N{REPLACEMENT CHARACTER}rich (A) to C, ".encode(), ran.output)
         name = self.file(b"site \xff\n")
-        self.assert_told(call("plan", name), f"{name} line 1: expected a site's name, found \"\N{REPLACEMENT CHARACTER}\"")
+        self.assert_told(call("plan", name), f'{name} line 1: expected a site\'s name, found "\N{REPLACEMENT CHARACTER}"')
         utf_16 = self.file(A.read_text(encoding="utf-8").encode("utf-16"))
         self.assertEqual(call("plan", utf_16).status, 2)
 
@@ -516,7 +546,7 @@ class Output(CommandTest):
         return run(sys.executable, COMMAND, *words, program=shell, stdin=bytes.fromhex(A_HEX))
 
     def test_a_closed_standard_output_is_told(self):
-        for words in (("plan", A), ("bytes", A), ("text",)):
+        for words in (("plan", A), ("bytes", A), ("text",), ("--help",)):
             with self.subTest(words):
                 self.assert_told(self.redirected(">&-", *words), "standard output is closed")
 
@@ -538,7 +568,9 @@ class Output(CommandTest):
         self.assertEqual((ran.status, ran.errors), (2, b"feshangul: standard output: Broken pipe\n"))
 
     def test_a_fault_is_not_written_to_standard_output_where_standard_error_is_closed(self):
-        self.assertEqual(self.redirected("2>&-", "plan", self.folder / "none").output, b"")
+        for words in (("plan", self.folder / "none"), ("frob",), ("plan", A, "--frob")):
+            with self.subTest(words):
+                self.assertEqual(self.redirected("2>&-", *words), Ran(2, b"", b""))
 
 
 # ---- hostile words ----
@@ -546,17 +578,49 @@ class Output(CommandTest):
 HOSTILE = ("\x1b[31mred", "\x1b]0;title\x07", "\x7f", "\x9b31m", "a\rb", "\x00", "\x08\x08", "\u202eback")
 HEAD = "site A\nsite B\nrisk R\n"
 PLACES_IN_A_MESH = (
-    "{}", "site {}", "site A {}", "site A 1 {}", 'site A "{}"', 'site A "{}', "risk {}", 'risk R "{}"', "request {}",
-    HEAD + "span {} B 1 -", HEAD + "span A {} 1 -", HEAD + "arc A B {} -", HEAD + "span A B 1 {}", HEAD + "span A B 1 R,{}",
-    HEAD + 'span A B 1 R "{}"', HEAD + 'span A B 1 R "" {}', HEAD + "request A {}", HEAD + "request A B reach {}",
-    HEAD + "request A B allowance {}", HEAD + "{}", "from {}", "from 0 {}", "from 0 to {}", "from 0 to 1 reach {}",
-    "from 0 to 1 reach 1 allowance {}", "from 0 to 1 reach 1 allowance 1 {}", "from 0 to 1 reach 1 allowance 1 spare {}",
-    "from 0 to 1 reach 1 allowance 1\n{}", "from 0 to 1 reach 1 allowance 1\n0: 0,{}",
-    "from 0 to 1 reach 1 allowance 1\n0: 0,1,{}", "from 0 to 1 reach 1 allowance 1\n0: 0,1,1,{{{}",
+    "{}",
+    "site {}",
+    "site A {}",
+    "site A 1 {}",
+    'site A "{}"',
+    'site A "{}',
+    "risk {}",
+    'risk R "{}"',
+    "request {}",
+    HEAD + "span {} B 1 -",
+    HEAD + "span A {} 1 -",
+    HEAD + "arc A B {} -",
+    HEAD + "span A B 1 {}",
+    HEAD + "span A B 1 R,{}",
+    HEAD + 'span A B 1 R "{}"',
+    HEAD + 'span A B 1 R "" {}',
+    HEAD + "request A {}",
+    HEAD + "request A B reach {}",
+    HEAD + "request A B allowance {}",
+    HEAD + "{}",
+    "from {}",
+    "from 0 {}",
+    "from 0 to {}",
+    "from 0 to 1 reach {}",
+    "from 0 to 1 reach 1 allowance {}",
+    "from 0 to 1 reach 1 allowance 1 {}",
+    "from 0 to 1 reach 1 allowance 1 spare {}",
+    "from 0 to 1 reach 1 allowance 1\n{}",
+    "from 0 to 1 reach 1 allowance 1\n0: 0,{}",
+    "from 0 to 1 reach 1 allowance 1\n0: 0,1,{}",
+    "from 0 to 1 reach 1 allowance 1\n0: 0,1,1,{{{}",
 )
 PLACES_ON_THE_LINE = (
-    "{}", "--{}", "plan MESH {}", "plan MESH --{}", "plan MESH --from {}", "plan MESH --to {}", "plan MESH --reach {}",
-    "plan MESH --allowance {}", "plan MESH --request {}", "plan MESH --json={}",
+    "{}",
+    "--{}",
+    "plan MESH {}",
+    "plan MESH --{}",
+    "plan MESH --from {}",
+    "plan MESH --to {}",
+    "plan MESH --reach {}",
+    "plan MESH --allowance {}",
+    "plan MESH --request {}",
+    "plan MESH --json={}",
 )
 PLACES_OF_A_FILE = ("plan {}", "bytes {}", "text {}", "text --names {}")
 
@@ -629,10 +693,11 @@ class HostileWords(CommandTest):
                 self.assert_short(call(*words_with(place, "@ " * 2500)))
 
     def test_the_long_name_of_a_file_is_cut(self):
-        # No file has a name of 5,000 characters; a path that is in use may be longer than any other word and is shown whole.
+        # Its end is shown: there stands what tells one file from another.
         for place in PLACES_OF_A_FILE:
             with self.subTest(place):
                 self.assert_short(call(*words_with(place, "@" * 5000), stdin=bytes.fromhex(A_HEX)))
+        self.assert_told(call("plan", "@" * 5000), f"...{'@' * 200}: File name too long")
 
 
 # ---- what the command needs around it ----
@@ -654,7 +719,7 @@ class Planner(CommandTest):
         for number in range(300):
             mesh = small_mesh(rng) if number % 3 else damaged(rng, small_mesh(rng))
             r = mesh.requests[0]
-            table = records.put_table(mesh.arcs) + bytes(number % 29 == 0)
+            table = records.put_table(mesh.arcs) + (b"" if number % 29 else b"\0")  # now and then torn
             with self.subTest(number):
                 asked = (table, r.source, r.terminal, r.reach, r.allowance)
                 self.assertEqual(served.plan(*asked), library.planner().plan(*asked))

@@ -7,7 +7,7 @@ from dataclasses import replace
 
 from feshangul import answer, sheet, text, why
 
-from .shared import EXAMPLES, example, small_mesh
+from .shared import A_SHEET, EXAMPLES, example, small_mesh
 
 
 def planned(written, **change):
@@ -102,24 +102,11 @@ class Sheets(unittest.TestCase):
         self.assertEqual(sheet.words(planned(written, **change)), expected)
 
     def test_a1_is_settled_with_nothing_shared(self):
-        self.assert_sheet("""\
-From node 0 to node 3, each route within 10,000 m.
-Settled after 2 mains: no pair within this reach shares fewer, and none that shares as few is shorter. \
-No larger allowance changes this pair.
-Shared by both routes: no risk.
-On every route within this reach: no risk.
-Between the ends they pass no common site and no common span.
-Main: 5,000 m, 5 km: node 0, node 1, node 3.
-  node 0 to node 1: 1,000 m by arc 0; risk 0
-  node 1 to node 3: 4,000 m by arc 1; risk 1
-Standby: 5,000 m, 5 km: node 0, node 2, node 3.
-  node 0 to node 2: 4,000 m by arc 2; risk 2
-  node 2 to node 3: 1,000 m by arc 3; risk 3
-Together 10,000 m.
-""", example("A.txt"))
+        self.assert_sheet(A_SHEET, example("A.txt"))
 
     def test_a2_is_stopped_over_the_floor(self):
-        self.assert_sheet("""\
+        self.assert_sheet(
+            """\
 From node 0 to node 3, each route within 10,000 m.
 Stopped after 1 main, which is the allowance: a larger one may find a pair that shares fewer, 0 at best, \
 or as few at less length. A larger allowance never gives a worse pair.
@@ -134,10 +121,14 @@ Standby: 5,000 m, 5 km: node 0, node 1, node 3.
   node 0 to node 1: 1,000 m by arc 0; risk 0
   node 1 to node 3: 4,000 m by arc 1; risk 1
 Together 8,000 m.
-""", example("A.txt"), allowance=1)
+""",
+            example("A.txt"),
+            allowance=1,
+        )
 
     def test_a5_has_one_route_twice_with_three_risks_shared(self):
-        self.assert_sheet("""\
+        self.assert_sheet(
+            """\
 From node 0 to node 3, each route within 4,999 m.
 Settled after 1 main: no pair within this reach shares fewer, and none that shares as few is shorter. \
 No larger allowance changes this pair.
@@ -150,10 +141,14 @@ Main: 3,000 m, 3 km: node 0, node 1, node 2, node 3.
   node 2 to node 3: 1,000 m by arc 3; risk 3
 Standby: the same route once more; it fails with the main.
 Together 6,000 m.
-""", example("A.txt"), reach=4999)
+""",
+            example("A.txt"),
+            reach=4999,
+        )
 
     def test_d1_is_the_same_route_twice(self):
-        self.assert_sheet("""\
+        self.assert_sheet(
+            """\
 From node 0 to node 1, each route within 10,000 m.
 Settled after 1 main: no pair within this reach shares fewer, and none that shares as few is shorter. \
 No larger allowance changes this pair.
@@ -164,10 +159,13 @@ Main: 1,000 m, 1 km: node 0, node 1.
   node 0 to node 1: 1,000 m by arc 0; risk 0
 Standby: the same route once more; it fails with the main.
 Together 2,000 m.
-""", example("D.txt"))
+""",
+            example("D.txt"),
+        )
 
     def test_e2_is_the_same_route_of_0_metres_twice_with_no_risk(self):
-        self.assert_sheet("""\
+        self.assert_sheet(
+            """\
 From node 0 to node 1, each route within 0 m.
 Settled after 1 main: no pair within this reach shares fewer, and none that shares as few is shorter. \
 No larger allowance changes this pair.
@@ -178,26 +176,37 @@ Main: 0 m, 0 km: node 0, node 1.
   node 0 to node 1: 0 m by arc 0; no risk
 Standby: the same route once more; it fails with the main.
 Together 0 m.
-""", example("E.txt"))
+""",
+            example("E.txt"),
+        )
 
     def test_case_k_rounds_sixteen_spans_of_1999_m_once_to_32_km(self):
         self.assert_sheet(K_SHEET, K)
 
     def test_a_refusal_is_told_with_its_number(self):
-        self.assert_sheet("""\
+        self.assert_sheet(
+            """\
 From node 0 to node 3, each route within 2,999 m.
 Refused, number 10: no route from source to terminal is within reach.
-""", example("A.txt"), reach=2999)
+""",
+            example("A.txt"),
+            reach=2999,
+        )
 
     def test_a_refusal_for_an_arc_is_told_with_its_line(self):
-        self.assert_sheet("""\
+        self.assert_sheet(
+            """\
 From node 0 to node 1, each route within 10 m.
 Refused, number 9: arc 1, line 3: both ends are node 7.
-""", "from 0 to 1 reach 10 allowance 1\n0: 0,1,5,{}\n1: 7,7,5,{}\n")
+""",
+            "from 0 to 1 reach 10 allowance 1\n0: 0,1,5,{}\n1: 7,7,5,{}\n",
+        )
 
     def test_europe_within_1649_km_shares_the_rhine_bridge(self):
         found = planned(example("europe.txt"), reach=1_649_000)
-        self.assertEqual(sheet.words(found) + why.words(found), """\
+        self.assertEqual(
+            sheet.words(found) + why.words(found),
+            """\
 From London (LON) to Vienna (VIE), each route within 1,649,000 m.
 Settled after 3 mains: no pair within this reach shares fewer, and none that shares as few is shorter. \
 No larger allowance changes this pair.
@@ -215,10 +224,12 @@ Standby: 1,648,675 m, 1,649 km: London, Amsterdam, Frankfurt, Vienna.
   FRA to VIE: 725,125 m by FRA-VIE, arc 20; BOHEMIA
 Together 3,256,775 m.
 The least reach at which fewer are shared is 1,702,050 m, 53,050 m more: 0 then.
-""")
+""",
+        )
 
     def test_a_pair_stopped_with_the_floor_met_can_only_get_shorter(self):
-        self.assert_sheet("""\
+        self.assert_sheet(
+            """\
 From Aachen (A) to Bonn (B), each route within 100,000 m.
 Stopped after 1 main, which is the allowance: no pair within this reach shares fewer; only the length could still get better. \
 A larger allowance never gives a worse pair.
@@ -230,10 +241,13 @@ Main: 70,000 m, 70 km: Aachen, Bonn.
 Standby: 95,500 m, 96 km: Aachen, Bonn.
   A to B: 95,500 m by B-A no. 2, arc 3; RHINE, HALL
 Together 165,500 m.
-""", HALL)
+""",
+            HALL,
+        )
 
     def test_a_pair_settled_over_the_floor_has_tried_every_route(self):
-        self.assert_sheet("""\
+        self.assert_sheet(
+            """\
 From node 0 to node 1, each route within 100 m.
 Settled after 3 mains: every route within this reach has been tried as main. No larger allowance changes this pair.
 Shared by both routes: 2 risks: risk 1, risk 9.
@@ -244,10 +258,13 @@ Main: 10 m, 1 km: node 0, node 1.
 Standby: 20 m, 1 km: node 0, node 1.
   node 0 to node 1: 20 m by arc 1; risk 1, risk 2, risk 9
 Together 30 m.
-""", TRIANGLE)
+""",
+            TRIANGLE,
+        )
 
     def test_spans_are_called_by_title_or_ends_and_parallel_ones_are_told_apart(self):
-        self.assert_sheet("""\
+        self.assert_sheet(
+            """\
 From D to A, each route within 20,000 m.
 Settled after 1 main: no pair within this reach shares fewer, and none that shares as few is shorter. \
 No larger allowance changes this pair.
@@ -260,11 +277,14 @@ Main: 8,000 m, 8 km: D, C, Bonn, A.
   B to A: 5,000 m by A-B no. 1, arc 1; no risk
 Standby: the same route once more; it fails with the main.
 Together 16,000 m.
-""", PARALLEL)
+""",
+            PARALLEL,
+        )
 
     def test_a_span_that_both_routes_pass_in_other_directions_is_told(self):
         # The main goes S U V T and the standby S V U T; the patch between U and V is one span with two arcs.
-        self.assert_sheet("""\
+        self.assert_sheet(
+            """\
 From S to T, each route within 62,000,000 m, which sets no limit.
 Settled after 3 mains: no pair within this reach shares fewer, and none that shares as few is shorter. \
 No larger allowance changes this pair.
@@ -280,7 +300,8 @@ Standby: 21 m, 1 km: S, V, U, T.
   V to U: 1 m by Patch (U-V), arc 5; no risk
   U to T: 10 m by U-T, arc 2; Q
 Together 42 m.
-""", """\
+""",
+            """\
 site S
 site U
 site V
@@ -293,7 +314,40 @@ arc U T 10 Q
 arc V T 10 P
 span U V 1 - "Patch"
 request S T
-""")
+""",
+        )
+
+
+class NamesOfSpans(unittest.TestCase):
+    def test_both_directions_have_one_name_and_those_with_the_same_ends_are_numbered(self):
+        mesh = text.read(
+            """\
+site A
+site B
+site C
+span B A 1 -
+arc A B 1 -
+arc B C 1 -
+span C A 1 - "Trunk"
+arc A C 1 -
+""",
+            "mesh",
+        )
+        self.assertEqual(
+            [mesh.span(number) for number in range(7)],
+            [
+                "B-A no. 1",
+                "B-A no. 1",
+                "A-B no. 2",
+                "B-C",
+                "Trunk (C-A)",
+                "Trunk (C-A)",
+                "A-C no. 2",
+            ],
+        )
+
+    def test_an_arc_of_a_numbered_mesh_is_called_by_its_number(self):
+        self.assertEqual(text.read(example("A.txt"), "A.txt").span(4), "arc 4")
 
 
 # ---- why ----
@@ -347,16 +401,19 @@ class Why(unittest.TestCase):
                 better = why.least_reach(found)
                 self.assertEqual(better and (better.reach, better.shared), expected)
             kinds[found.verdict, "nothing shared" if expected is None else "none" if expected[0] is None else "better"] += 1
-        self.assertEqual(sorted(kinds), [
-            ("refused", "better"),
-            ("refused", "none"),
-            ("settled", "better"),
-            ("settled", "none"),
-            ("settled", "nothing shared"),
-            ("stopped", "better"),
-            ("stopped", "none"),
-            ("stopped", "nothing shared"),
-        ])
+        self.assertEqual(
+            sorted(kinds),
+            [
+                ("refused", "better"),
+                ("refused", "none"),
+                ("settled", "better"),
+                ("settled", "none"),
+                ("settled", "nothing shared"),
+                ("stopped", "better"),
+                ("stopped", "none"),
+                ("stopped", "nothing shared"),
+            ],
+        )
 
     def test_europe_shares_nothing_from_1702050_m_on(self):
         mesh = text.read(example("europe.txt"), "europe.txt")
@@ -376,6 +433,7 @@ class Why(unittest.TestCase):
             ("The least reach with a route is 3,000 m, 3,000 m more.\n", example("A.txt"), {"reach": 0}),
             ("No reach brings a route: none leads from one to the other.\n", example("A.txt"), {"source": 3, "terminal": 0}),
             ("No larger reach shares fewer.\n", example("D.txt"), {}),
+            ("No larger reach shares fewer.\n", HALL, {}),  # stopped, but the floor is met: no allowance helps either
             ("No larger reach shares fewer.\n", TRIANGLE, {"reach": 62_000_000}),
             ("No larger reach shares fewer with this allowance.\n", example("A.txt"), {"allowance": 1}),
             ("", example("A.txt"), {"allowance": 0}),

@@ -204,6 +204,7 @@ class FreeForms(unittest.TestCase):
             " 0 : 0 , 1 , 01000 , { 0 , 63 , 7 } # arc\n1:1,3,4000,{}",
             "\ufefffrom 0 to 3 reach 10000 allowance 1000\n\n\n0: 0,1,1000,{7,0,63}\n# between\n1: 1,3,4000,{ }\n\n",
             "\tfrom\t0\tto\t3\treach\t10km\tallowance\t1000\n0:\t0,1,1km,{63,7,0}\n1: 1,3,4000m,{}#\n",
+            "from 0000 to 0003 reach 000000010000 allowance 000000001000\n0: 0,1,1000,{0,7,00063}\n000000000001: 1,3,4000,{}\n",
         ):
             with self.subTest(free):
                 self.assertEqual(text.write(text.read(free, "mesh")), STRICT)
@@ -212,7 +213,7 @@ class FreeForms(unittest.TestCase):
         for free in (
             NAMED.replace("\n", "\r\n"),
             "\ufeff" + NAMED.rstrip("\n"),
-            NAMED.replace(" ", "\t").replace("\n", "  # comment \"with one quote\n\n"),
+            NAMED.replace(" ", "\t").replace("\n", '  # comment "with one quote\n\n'),
             '#\n\nsite A\nrisk R\nrisk S\n  site B"Bern"46.95 7.45\n'
             'span A B 1200 S , R"Trunk"\nrequest A B reach 5000 allowance 09\n',
             'risk R\nsite A\nsite B "Bern" 46.95 7.45\nrequest A B reach 5000m allowance 9\nrisk S\nspan A B 1200m R,S "Trunk"\n',
@@ -266,11 +267,14 @@ class FreeForms(unittest.TestCase):
 
     def test_a_span_is_two_arcs_and_each_knows_its_line(self):
         mesh = text.read("site A\nsite B\nrisk R\n\nspan A B 7 R\narc B A 9 -\n", "mesh")
-        self.assertEqual([(a.tail, a.head, a.metres, set(a.risks), a.span, a.line) for a in mesh.arcs], [
-            (0, 1, 7, {0}, 0, 5),
-            (1, 0, 7, {0}, 0, 5),
-            (1, 0, 9, set(), 1, 6),
-        ])
+        self.assertEqual(
+            [(a.tail, a.head, a.metres, set(a.risks), a.span, a.line) for a in mesh.arcs],
+            [
+                (0, 1, 7, {0}, 0, 5),
+                (1, 0, 7, {0}, 0, 5),
+                (1, 0, 9, set(), 1, 6),
+            ],
+        )
 
     def test_all_that_a_table_holds_can_be_written(self):
         sites = "".join(f"site S{n}\n" for n in range(32))
@@ -330,6 +334,7 @@ RISKS = 'expected risks, as CHT,PRING, or "-" for none, found'
 ARCS = "expected at most 128 arcs (a span is two), found arc 129"
 NOT_CLOSED = "expected a quote at the end of the title, found the end of the line"
 LATITUDE = "expected a latitude from -90 to 90, found"
+TITLE_OR_LATITUDE = "expected a title in quotes, or a latitude from -90 to 90, found"
 LONGITUDE = "expected a longitude from -180 to 180, found"
 
 BY_NAME = (
@@ -337,7 +342,7 @@ BY_NAME = (
     ('4: expected "site", "risk", "span", "arc" or "request", found "from"', HEAD + REQUEST),
     ('4: expected "site", "risk", "span", "arc" or "request", found "sites"', HEAD + "sites ROME\n"),
     ("4: expected a site's name, found the end of the line", HEAD + "site\n"),
-    ("4: expected a risk's name, found \"-\"", HEAD + "risk -\n"),
+    ('4: expected a risk\'s name, found "-"', HEAD + "risk -\n"),
     ('4: site "PARIS" stands on line 2 already', HEAD + "site PARIS\n"),
     ('6: risk "TUNNEL" stands on line 3 already', HEAD + "\n# again\nrisk TUNNEL\n"),
     ('33: expected at most 32 sites, found "S32" as one more', "".join(f"site S{n}\n" for n in range(33))),
@@ -374,9 +379,10 @@ BY_NAME = (
     (f"4: {RISKS} the end of the line", HEAD + "span LONDON PARIS 1 TUNNEL,\n"),
     (f'4: {RISKS} "-"', HEAD + "span LONDON PARIS 1 TUNNEL,-\n"),
     ('4: expected each risk once, found "TUNNEL" again', HEAD + "span LONDON PARIS 1 TUNNEL,TUNNEL\n"),
-    (f'4: {LATITUDE} "90.1"', HEAD + "site ROME 90.1 0\n"),
-    (f'4: {LATITUDE} "-90.0001"', HEAD + "site ROME -90.0001 0\n"),
-    (f'4: {LATITUDE} "north"', HEAD + "site ROME north 0\n"),
+    (f'4: {LATITUDE} "90.1"', HEAD + 'site ROME "Roma" 90.1 0\n'),
+    (f'4: {TITLE_OR_LATITUDE} "-90.0001"', HEAD + "site ROME -90.0001 0\n"),
+    (f'4: {TITLE_OR_LATITUDE} "Roma"', HEAD + "site ROME Roma\n"),
+    (f'4: {SITE} "london"; is "LONDON" meant?', HEAD + "request london PARIS\n"),
     (f'4: {LONGITUDE} "180.5"', HEAD + "site ROME 41.9 180.5\n"),
     (f'4: {LONGITUDE} "-181"', HEAD + "site ROME 41.9 -181\n"),
     (f"4: {LONGITUDE} the end of the line", HEAD + "site ROME 41.9\n"),
@@ -436,6 +442,71 @@ class Refused(RefusalTest):
         )
 
 
+PIECES = (
+    '"',
+    "#",
+    "\n",
+    " ",
+    ",",
+    "-",
+    "{",
+    "}",
+    ":",
+    ".",
+    "0",
+    "9",
+    "9" * 30,
+    "km",
+    "m",
+    "A",
+    "é",
+    "\t",
+    "\r",
+    "\x00",
+    "\x85",
+    "\u00a0",
+    "\u0301",
+    "\u0663",
+    "\u2028",
+    "\ufeff",
+    "site ",
+    "risk ",
+    "span ",
+    "arc ",
+    "request ",
+    "reach ",
+    "allowance ",
+    "from ",
+    "to ",
+    "spare ",
+)
+
+
+def spoilt(rng, written):
+    """A text with some characters cut out at one place, or something else put there, or both."""
+    at = rng.randrange(len(written) + 1)
+    return written[:at] + rng.choice(("", rng.choice(PIECES))) + written[at + rng.choice((0, 1, 2, 20)) :]
+
+
+class SpoiltMeshes(unittest.TestCase):
+    def test_3000_spoilt_meshes_are_told_in_one_line_or_read_as_what_is_written_of_them(self):
+        rng = random.Random(20)
+        told = 0
+        for number in range(3000):
+            written = random_named(rng, False)[0] if number % 2 else random_numbered(rng, rng.randrange(6))[0]
+            faulty = spoilt(rng, written)
+            with self.subTest(faulty):
+                try:
+                    mesh = text.read(faulty, "mesh")
+                except InputFault as fault:
+                    told += 1
+                    self.assertRegex(str(fault), "^mesh line [0-9]+: ")
+                    self.assertTrue(str(fault).isprintable())
+                else:
+                    self.assertEqual(text.read(text.write(mesh), "again"), mesh)
+        self.assertTrue(1000 < told < 2900, told)
+
+
 # ---- names for bytes ----
 
 SOUND = "from 0 to 1 reach 5 allowance 1\n"
@@ -455,12 +526,15 @@ class NamesForBytes(RefusalTest):
             "7: 1,2,7,{0}\n8: 2,1,7,{1}\n"  # two risks
             "9: 0,2,0,{}\n10: 0,2,0,{}\n"  # the same way twice
         )
-        self.assertEqual(text.write(named), (
-            'site A "Aachen"\nsite B\nsite C\nrisk R "Rhine"\nrisk S\n'
-            "span A B 1.2km R,S\nspan A B 1.2km R,S\narc A B 1.2km R,S\n"
-            "arc B C 7m -\narc C B 8m -\narc B C 7m R\narc C B 7m S\narc A C 0m -\narc A C 0m -\n"
-            "request A C reach 5km allowance 9\n"
-        ))
+        self.assertEqual(
+            text.write(named),
+            (
+                'site A "Aachen"\nsite B\nsite C\nrisk R "Rhine"\nrisk S\n'
+                "span A B 1.2km R,S\nspan A B 1.2km R,S\narc A B 1.2km R,S\n"
+                "arc B C 7m -\narc C B 8m -\narc B C 7m R\narc C B 7m S\narc A C 0m -\narc A C 0m -\n"
+                "request A C reach 5km allowance 9\n"
+            ),
+        )
 
     def test_a_mesh_without_arcs_gets_names_too(self):
         written = text.write(self.given("from 2 to 1 reach 0 allowance 1\n"))
