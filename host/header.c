@@ -1,0 +1,63 @@
+/* Tests what feshangul.h itself computes: the writers, the readers, and that its version says the same twice. Prints
+ * nothing and returns 0 where all is well; else it names the line that does not hold. */
+#include "feshangul.h"
+
+#include <stdio.h>
+#include <stdlib.h>
+#include <string.h>
+
+static void hold(int holds, int line)
+{
+    if (!holds) {
+        printf("header.c line %d does not hold\n", line);
+        exit(1);
+    }
+}
+
+#define HOLD(test) hold((test), __LINE__)
+
+static void test_arcs(void)
+{
+    static const uint8_t arc[FESHANGUL_ARC_BYTES] = { 31, 2, 0, 0, 0x80, 0x84, 0x1e, 0, 1, 0, 0, 0, 0, 0, 0, 0x80 };
+    uint8_t record[FESHANGUL_ARC_BYTES + 1];
+
+    memset(record, 0xAA, sizeof record);
+    feshangul_put_arc(record, 31, 2, FESHANGUL_ARC_METRES_MAX, (uint64_t)1 << FESHANGUL_RISK_MAX | 1);
+    HOLD(memcmp(record, arc, sizeof arc) == 0);
+    HOLD(record[FESHANGUL_ARC_BYTES] == 0xAA);
+
+    /* 256 is no byte: it must not come out as node 0. */
+    feshangul_put_arc(record, 256, 255, 0, 0);
+    HOLD(record[FESHANGUL_ARC_TAIL] == 255 && record[FESHANGUL_ARC_HEAD] == 255);
+}
+
+static void test_reply(void)
+{
+    uint8_t reply[FESHANGUL_REPLY_BYTES];
+
+    for (unsigned place = 0; place < sizeof reply; place++)
+        reply[place] = (uint8_t)place;
+    HOLD(feshangul_verdict(reply) == 0 && feshangul_shared(reply) == 1 && feshangul_floor(reply) == 2);
+    HOLD(feshangul_main_arcs(reply) == 3 && feshangul_standby_arcs(reply) == 4);
+    HOLD(feshangul_ranked(reply) == 0x0b0a0908u);
+    HOLD(feshangul_main_metres(reply) == 0x0f0e0d0cu && feshangul_standby_metres(reply) == 0x13121110u);
+    HOLD(feshangul_shared_risks(reply) == UINT64_C(0x1f1e1d1c1b1a1918));
+    HOLD(feshangul_main_arc(reply, 0) == 32 && feshangul_main_arc(reply, 30) == 62);
+    HOLD(feshangul_standby_arc(reply, 0) == 64 && feshangul_standby_arc(reply, 30) == 94);
+}
+
+static void test_version(void)
+{
+    unsigned first, second, third;
+
+    HOLD(sscanf(FESHANGUL_VERSION, "%u.%u.%u", &first, &second, &third) == 3);
+    HOLD(first * 10000 + second * 100 + third == FESHANGUL_VERSION_NUMBER);
+}
+
+int main(void)
+{
+    test_arcs();
+    test_reply();
+    test_version();
+    return 0;
+}
