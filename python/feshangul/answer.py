@@ -5,7 +5,7 @@ from __future__ import annotations
 from dataclasses import dataclass
 
 from . import records, rules
-from .fault import LibraryFault
+from .fault import InputFault, LibraryFault
 from .library import planner
 from .mesh import Mesh, Request
 
@@ -81,8 +81,10 @@ def plan(mesh, request):
     """Asks the proved planner, and returns a Pair or a Refusal."""
     if any(request.spare):
         return Refusal(mesh, request, 12, rules.REFUSALS[12])  # the request record of `routes`; a call has no such bytes
-    r = request
-    number, data = planner().plan(records.put_table(mesh.arcs), r.source, r.terminal, r.reach, r.allowance)
+    asked = (request.source, request.terminal, request.reach, request.allowance)
+    if not all(0 <= number < 2**32 for number in asked):  # a call would carry another number
+        raise InputFault("each number of a request is 0 to 4,294,967,295")
+    number, data = planner().plan(records.put_table(mesh.arcs), *asked)
     if number not in VERDICTS:
         return _refusal(mesh, request, number)
     return _pair(mesh, request, number, records.get_reply(data))

@@ -260,6 +260,12 @@ class Package(unittest.TestCase):
         pair = feshangul.plan(mesh, feshangul.Request(0, 1))
         self.assertEqual((pair.main.arcs, pair.standby.arcs, pair.shared_risks), ((0,), (0,), {63}))
 
+    def test_a_number_that_no_call_can_carry_is_told_and_not_cut(self):
+        for change in ({"source": 2**32}, {"terminal": -1}, {"reach": 2**32 + 10_000}, {"allowance": 2**64}):
+            with self.subTest(change), self.assertRaises(feshangul.InputFault) as raised:
+                feshangul.plan(A, replace(A1, **change))
+            self.assertEqual(str(raised.exception), "each number of a request is 0 to 4,294,967,295")
+
     def test_an_input_fault_is_a_fault(self):
         with self.assertRaises(feshangul.Fault) as raised:
             feshangul.parse_mesh("", "nothing")
