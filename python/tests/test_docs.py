@@ -1,0 +1,44 @@
+"""What README.md and docs/MESHES.md show is what the command reads and prints."""
+
+import re
+import unittest
+
+from .shared import EXAMPLES, REPOSITORY, call
+
+
+def blocks(name, begins):
+    """The indented blocks of a document, without their indent, from the first that begins so on."""
+    text = (REPOSITORY / name).read_text(encoding="utf-8")
+    found = [
+        re.sub("^    ", "", block, flags=re.MULTILINE) for block in re.findall(r"(?:^    .*\n|^\n(?=    ))+", text, re.MULTILINE)
+    ]
+    found = [block.strip("\n") + "\n" for block in found]
+    return found[next(place for place, block in enumerate(found) if block.startswith(begins)) :]
+
+
+class Documents(unittest.TestCase):
+    maxDiff = None
+
+    def test_the_mesh_worked_through_in_meshes_prints_what_stands_below_it(self):
+        mesh, printed, *_ = blocks("docs/MESHES.md", "site LON")
+        ran = call("plan", "-", stdin=mesh.encode())
+        self.assertEqual((ran.status, ran.output.decode()), (0, printed))
+
+    def test_the_mesh_by_number_in_meshes_is_read(self):
+        mesh, *_ = blocks("docs/MESHES.md", "from 0 to 3")
+        self.assertEqual(call("plan", "-", stdin=mesh.encode()).output.decode().split("\n")[0], "settled 3 3 1")
+
+    def test_the_first_command_of_the_readme_prints_what_stands_below_it(self):
+        printed, *_ = blocks("README.md", "settled 0 0 4")
+        output = call("plan", EXAMPLES / "europe.txt").output.decode()
+        for shown in printed.split("\n"):
+            with self.subTest(shown):
+                self.assertIn(shown.removesuffix(" ..").rstrip("."), output)
+
+    def test_the_mesh_of_the_readme_is_planned(self):
+        mesh, *_ = blocks("README.md", "site LON")
+        self.assertEqual(call("plan", "-", stdin=mesh.encode()).status, 0)
+
+
+if __name__ == "__main__":
+    unittest.main()
