@@ -24,6 +24,7 @@ install:
 	$(INSTALL) -m 644 release/feshangul.h $(DESTDIR)$(PREFIX)/include
 	sed -e 's,^prefix=.*,prefix=$(PREFIX),' -e 's,^libdir=.*,libdir=$(LIBDIR),' release/feshangul.pc \
 		> $(DESTDIR)$(LIBDIR)/pkgconfig/feshangul.pc
+	chmod 644 $(DESTDIR)$(LIBDIR)/pkgconfig/feshangul.pc
 	$(INSTALL) -m 644 python/feshangul/*.py $(DESTDIR)$(PYTHONDIR)/feshangul
 	$(INSTALL) -m 755 bin/feshangul $(DESTDIR)$(PREFIX)/bin
 
@@ -34,7 +35,7 @@ uninstall:
 
 # The tree is made in a folder of its own each time, so that two runs do not meet.
 deb:
-	@mkdir -p target; tree=$$(mktemp -d) && trap 'rm -rf "$$tree"' EXIT && chmod 755 "$$tree" && mkdir "$$tree/DEBIAN" && \
+	@mkdir -p target; tree=$$(mktemp -d) && trap 'rm -rf "$$tree"' EXIT && mkdir "$$tree/DEBIAN" && chmod 755 "$$tree" "$$tree/DEBIAN" && \
 	$(MAKE) --no-print-directory -s install DESTDIR="$$tree" PREFIX=/usr LIBDIR=/usr/lib/x86_64-linux-gnu && \
 	sed 's/@VERSION@/$(VERSION)/' tools/control > "$$tree/DEBIAN/control" && \
 	echo 'activate-noawait ldconfig' > "$$tree/DEBIAN/triggers" && \

@@ -36,7 +36,7 @@ extern "C" {
 #define FESHANGUL_ARC_METRES_MAX 2000000u
 #define FESHANGUL_REACH_MAX 62000000u    /* 31 arcs of 2,000,000 metres: no route is longer */
 #define FESHANGUL_ALLOWANCE_MAX 1000000u
-#define FESHANGUL_STACK_BYTES 65536u     /* stack that a call may need; 33,256 bytes are the most ever measured */
+#define FESHANGUL_STACK_BYTES 65536u     /* stack to have left for a call; the most measured is 33,256 */
 
 /* ---- The span table ---------------------------------------------------------------------------------------
  *

@@ -9,26 +9,24 @@ from . import rules
 
 
 @dataclass(frozen=True)
-class Site:
-    """A node that has a name. `place` is its latitude and longitude, where they were given."""
-
+class _Named:
     name: str
     title: str | None = None
-    place: tuple[Decimal, Decimal] | None = None
 
     def __str__(self):
         return f"{self.title} ({self.name})" if self.title else self.name
 
 
 @dataclass(frozen=True)
-class Risk:
+class Risk(_Named):
     """A risk that has a name."""
 
-    name: str
-    title: str | None = None
 
-    def __str__(self):
-        return f"{self.title} ({self.name})" if self.title else self.name
+@dataclass(frozen=True)
+class Site(_Named):
+    """A node that has a name. `place` is its latitude and longitude, where they were given."""
+
+    place: tuple[Decimal, Decimal] | None = None
 
 
 @dataclass(frozen=True)
