@@ -21,8 +21,8 @@
 extern "C" {
 #endif
 
-#define FESHANGUL_VERSION "0.1.0"
-#define FESHANGUL_VERSION_NUMBER 100u    /* 10,000 times the first part, and 100 times the second, and the third */
+#define FESHANGUL_VERSION "0.2.0"
+#define FESHANGUL_VERSION_NUMBER 200u    /* 10,000 times the first part, and 100 times the second, and the third */
 
 /* ---- Sizes and limits ------------------------------------------------------------------------------------- */
 
@@ -55,7 +55,8 @@ extern "C" {
  * reply, reply_len   where the reply record goes, at least 96 bytes, not overlapping the table. With 0 or 1 its
  *                    first 96 bytes are written and no others; with any other number none is.
  * source, terminal   the two end nodes, 0 to 31, not equal.
- * reach              how long a route may be, in metres, 0 to 62,000,000; the latter sets no limit.
+ * reach              how long a route may be, in metres, 0 to 62,000,000; the latter sets no limit, since 31 arcs,
+ *                    the most that a route can have, are no longer.
  * allowance          how many mains may be tried, in order of rank, 1 to 1,000,000. The standby may be any route.
  *
  * Neither pointer needs any alignment. There is no state, none is kept between calls, and nothing is allocated: any
@@ -66,8 +67,9 @@ uint32_t feshangul_plan(const uint8_t *table, size_t table_len, uint8_t *reply, 
 /* ---- Numbers returned, and what to do on each --------------------------------------------------------------
  *
  * With 0 and 1 a reply is written. All others are refusals: nothing was planned and the reply buffer is as it was.
- * Of several faults the first check in the order of docs/FORMATS.md that applies is told (numbers 2 to 11 in order
- * today), so mend it and ask again. Take a number that is not listed here as a refusal. */
+ * Of several faults the first check in the order of docs/FORMATS.md that applies is told (numbers 2 to 10 in order
+ * today), so mend it and ask again. Take a number that is not listed here as a refusal. 11 has ended: it was for a
+ * route of over 62,000,000 m, and there is none. It is given to nothing else. */
 
 /* Settled. Use the pair: it is the first of all pairs of routes, and a larger allowance gives the same reply. */
 #define FESHANGUL_SETTLED 0u
@@ -103,9 +105,6 @@ uint32_t feshangul_plan(const uint8_t *table, size_t table_len, uint8_t *reply, 
 
 /* No route leads from source to terminal within the reach. Tell the customer, or ask with a larger reach. */
 #define FESHANGUL_NO_ROUTE 10u
-
-/* A route of the answer is too long. The reach shuts this out: report it as our fault. */
-#define FESHANGUL_ROUTE_LONG 11u
 
 /* Only printed by the program `routes`, never returned by feshangul_plan: its input does not begin with a request.
  * Mend whatever wrote the input. */

@@ -71,12 +71,16 @@ fn limits() -> Vec<Worked> {
         row
     };
     let asked = |name, source, terminal, said| worked(name, &full, request(source, terminal, 10_000, 9), said);
+    let longest: Vec<Arc> = (0..31).map(|node| arc(node, node + 1, METRES_MAX)).collect();
+    let over_all = |name, reach, said| worked(name, &longest, request(0, 31, reach, 1), said);
     vec![
         cut("2,048 bytes of table", 2_048, "settled; main [0]; standby [0]"),
         cut("2,049 bytes of table", 2_049, "refused 2"),
         cut("2,047 bytes of table", 2_047, "refused 3"),
         worked("length 2,000,000", &[arc(0, 1, METRES_MAX)], far, "settled; total 4000000"),
         worked("length 2,000,001", &[arc(0, 1, METRES_MAX + 1)], far, "refused 9"),
+        over_all("the longest route that there can be", REACH_MAX, "settled; total 124000000"),
+        over_all("the longest route, a metre past the reach", REACH_MAX - 1, "refused 10"),
         worked("node 31", &[arc(0, 31, 5)], request(0, 31, 5, 1), "settled; total 10"),
         worked("node 32 in an arc", &[arc(0, 1, 5), arc(0, 32, 5)], far, "refused 9"),
         asked("source 32", 32, 1, "refused 5"),

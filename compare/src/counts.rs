@@ -5,6 +5,9 @@ use crate::listing::{faults, Answer, Plan};
 use crate::mesh::{Case, ARC_BYTES};
 use crate::trade::{Shape, SHAPES};
 
+/// The numbers of refusals; 11 has ended.
+const REFUSALS: [usize; 10] = [2, 3, 4, 5, 6, 7, 8, 9, 10, 12];
+
 #[derive(Default)]
 pub struct Counts {
     numbers: [usize; 13],
@@ -15,6 +18,7 @@ pub struct Counts {
     routes: usize,
     most_routes: usize,
     most_arcs: usize,
+    most_metres: u32,
     equal_lengths: usize,
     /// J = 1, between 1 and N, and N (over 1).
     steps: [usize; 3],
@@ -59,6 +63,7 @@ impl Counts {
         self.routes += n;
         self.most_routes = self.most_routes.max(n);
         self.most_arcs = plan.ranking.iter().map(|route| route.arcs.len()).fold(self.most_arcs, usize::max);
+        self.most_metres = self.most_metres.max(plan.ranking[n - 1].metres);
         self.equal_lengths += usize::from(plan.ranking.windows(2).any(|two| two[0].metres == two[1].metres));
         let step = if plan.settled_at == 1 { 0 } else { 1 + usize::from(plan.settled_at == n) };
         self.steps[step] += 1;
@@ -69,7 +74,7 @@ impl Counts {
     }
 
     pub fn print(&self) {
-        let refused: Vec<String> = (2..13).map(|number| format!("{number}: {}", self.numbers[number])).collect();
+        let refused: Vec<String> = REFUSALS.map(|number| format!("{number}: {}", self.numbers[number])).to_vec();
         println!("  settled {}, stopped {}; refused {}", self.numbers[0], self.numbers[1], refused.join(", "));
         println!("  several faults at once {}; tables of 128 arcs {}", self.several_faults, self.full_tables);
         let [none, short, exact, one_more, more] = self.buffers;
@@ -78,8 +83,8 @@ impl Counts {
             println!("  reply buffers of 0 {none}, 95 {short}, 96 {exact}, 97 {one_more}, more bytes {more}");
         }
         println!(
-            "  routes listed {}, at most {} in a mesh, at most {} arcs in one; equal lengths in {} rankings",
-            self.routes, self.most_routes, self.most_arcs, self.equal_lengths
+            "  routes listed {}, at most {} in a mesh, at most {} arcs and {} m in one; equal lengths in {} rankings",
+            self.routes, self.most_routes, self.most_arcs, self.most_metres, self.equal_lengths
         );
         let [at_once, between, at_n] = self.steps;
         println!(

@@ -73,6 +73,15 @@ pub fn ranking_within(patience: usize, arcs: &[Arc], request: &Request) -> Optio
     Some(growth.routes)
 }
 
+/// Holds sound arcs to what 02 says in T-10: whatever the reach, no path has more than 31 arcs or passes 62,000,000 m.
+/// So no number is there for a route that is too long.
+fn hold_no_path_longer(arcs: &[Arc], request: &Request) {
+    let endless = Request { reach: u32::MAX, ..*request };
+    let paths = ranking_within(usize::MAX, arcs, &endless).expect("endless patience");
+    assert!(paths.iter().all(|path| path.arcs.len() <= 31), "a path has at most 31 arcs");
+    assert!(paths.iter().all(|path| path.metres <= REACH_MAX), "no path is longer than the largest reach");
+}
+
 // ---- Pairs, and when a reply is settled ----
 
 /// A pair of ranks, from 1, with what it is judged by. The order of the fields is the judgement.
@@ -271,16 +280,15 @@ pub fn answer(case: &Case) -> Answer {
     if let Some(&first) = faults(case).first() {
         return Answer::Refused(first);
     }
-    let ranking = ranking_within(usize::MAX, &arcs_of(&case.table), &case.request).expect("endless patience");
+    let arcs = arcs_of(&case.table);
+    hold_no_path_longer(&arcs, &case.request);
+    let ranking = ranking_within(usize::MAX, &arcs, &case.request).expect("endless patience");
     if ranking.is_empty() {
         return Answer::Refused(10);
     }
     let plan = Plan::new(ranking);
     plan.hold_to_what_is_said();
     let reply = Reply::from_plan(&plan, case.request.allowance);
-    if reply.main.metres.max(reply.standby.metres) > REACH_MAX {
-        return Answer::Refused(11);
-    }
     Answer::Planned(plan, reply)
 }
 

@@ -22,7 +22,6 @@ REFUSALS = {
     8: f"the allowance is not 1 to {ALLOWANCE_MAX:,}",
     ARC_FAULT: "an arc has a field outside its range",
     NO_ROUTE: "no route from source to terminal is within reach",
-    11: f"a route of the answer is over {REACH_MAX:,} m",
     12: "the spare bytes of the request are not zero",
 }
 

@@ -11,7 +11,7 @@ use Rattle.problem.specs.Table.{lastNode, mostReach}
 use Rattle.problem.specs.Exposures.{toNothing}
 use Rattle.problem.specs.Routes.{Mesh, exposureOf, paths, Route, routeOf, ranking, count, shorter}
 use Rattle.problem.specs.Pairs.{Pair, pair, noRoute, sharedCount, every, best}
-use Rattle.problem.proofs.RankingLaws.{LowHeads}
+use Rattle.problem.proofs.PathLaws.{LowHeads}
 use Rattle.keys.specs.Keys.{standbyKey, sharedOf, totalOf, mainOf, noStandby}
 use Rattle.keys.proofs.BoundLaws.{standby-below}
 use Rattle.keys.proofs.ChoiceLaws.{pairKey-parts}

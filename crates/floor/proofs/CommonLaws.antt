@@ -10,7 +10,7 @@ use Rattle.problem.specs.Exposures.{exposed, toAll}
 use Rattle.problem.specs.Routes.{Mesh, ranking}
 use Rattle.problem.specs.Pairs.{onEvery}
 use Rattle.problem.proofs.ExposureLaws.{exposed-le-one, exposed-all, Inside, inside-all-ext}
-use Rattle.problem.proofs.RankingLaws.{LowHeads}
+use Rattle.problem.proofs.PathLaws.{LowHeads}
 use Rattle.problem.proofs.PairLaws.{every-inside-all}
 use Rattle.problem.proofs.WayLaws.{every-ways}
 use Rattle.floor.specs.Floor.{OnEveryWay, Narrowed, Asked}

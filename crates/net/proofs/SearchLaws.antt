@@ -23,7 +23,7 @@ use Rattle.problem.proofs.TableLaws.{sound-at}
 use Rattle.problem.proofs.ExposureLaws.{joined-assoc, joined-nothing}
 use Rattle.problem.proofs.RouteLaws.{opens-by, opens-new}
 use Rattle.problem.proofs.GrowthLaws.{fold-idle, fold-there, grow-way, grow-source, leftFrom, left-start, left-end, left-open, left-shut}
-use Rattle.problem.proofs.ReplyLaws.{sound-heads}
+use Rattle.problem.proofs.PathLaws.{sound-heads}
 use Rattle.chain.specs.Chain.{Next}
 use Rattle.chain.proofs.ChainLaws.{sprout-next}
 use Rattle.net.specs.declared.Behind.{Behind}

@@ -15,7 +15,7 @@ use Rattle.problem.specs.Pairs.{onEvery, floor}
 use Rattle.problem.specs.Reply.{meshOf, Checked}
 use Rattle.problem.proofs.RankingLaws.{Listed, ranking-out}
 use Rattle.problem.proofs.WayLaws.{way-route}
-use Rattle.problem.proofs.ReplyLaws.{sound-heads}
+use Rattle.problem.proofs.PathLaws.{sound-heads}
 use Rattle.side.specs.declared.Side.{Side}
 use Rattle.side.specs.Side.{SideTable, reachedAt, metresAt}
 use Rattle.floor.proofs.ClearLaws.{way-free}
@@ -60,8 +60,8 @@ module _ {table : List ℕ} {q : Request} (checked : Checked table q) where
     none-planned f far = record { none = λ g. go routes (λ r x. out (ranking-out (meshOf table q) x) far); some = λ g. absurd (false≢true (sym f ∙ g)) }
       where
         out : {r : Route} → Listed (meshOf table q) r → Far → ⊥
-        out o (inl e) = s .none (q .source) e (o .list) (way-free (arcsOf table) (q .terminal) (o .route .way))
-        out o (inr h) = omega (arith, h, o .route .within-reach, s .least (q .source) (o .list) (way-free (arcsOf table) (q .terminal) (o .route .way)))
+        out o (inl e) = s .none (q .source) e (o .list) (way-free (arcsOf table) (q .terminal) (o .route .path .way))
+        out o (inr h) = omega (arith, h, o .route .within-reach, s .least (q .source) (o .list) (way-free (arcsOf table) (q .terminal) (o .route .path .way)))
 
         go : (l : List Route) → ((r : Route) → List·Memᴰ r l → ⊥) → l ≡ []
         go [] f = refl

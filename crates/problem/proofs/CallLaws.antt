@@ -15,9 +15,10 @@ use Rattle.problem.specs.Routes.{Route, routeOf}
 use Rattle.problem.specs.Pairs.{noRoute, Step, every, someAt, leastSettled, ranked, verdict}
 use Rattle.problem.specs.Reply.{meshOf, Answer, refusal, Passed, answer}
 use Rattle.problem.specs.Calls.{routesOf, RouteOf, Applies}
+use Rattle.problem.proofs.PathLaws.{sound-heads}
 use Rattle.problem.proofs.RankingLaws.{ranking-in, ranking-out}
-use Rattle.problem.proofs.CandidateLaws.{best-in, best-main, every-some}
-use Rattle.problem.proofs.ReplyLaws.{answered, Outcome, outcome, passed-refusal, sound-heads, ranked-step, route-range}
+use Rattle.problem.proofs.CandidateLaws.{every-some}
+use Rattle.problem.proofs.ReplyLaws.{answered, Outcome, outcome, passed-refusal, ranked-step}
 use Rattle.problem.proofs.RefusalLaws.{NoneBelow, Told, refusal-told, Later, passed-later, passed-below}
 
 -- ---- the verdict
@@ -142,8 +143,6 @@ module _ (table : List ℕ) (q : Request) (size : ℕ) where
     where
       go : WithPair table q size → {i : ℕ} → Later table q size i → ⊥
       go w (Later.no-route f) = some-listed table q (w .some) f
-      go w (Later.main-too-long f) = omega (arith, route-range (w .passed .checked) (best-main every (routesOf table q) (ranked every (routesOf table q) (q .allowance)) (some-pair w)))
-      go w (Later.standby-too-long f) = omega (arith, route-range (w .passed .checked) (best-in every (routesOf table q) (ranked every (routesOf table q) (q .allowance)) (some-pair w) .standby-in))
 
   -- each number exactly where its own test holds and none of a smaller number
   pub numbered : (n : ℕ) → 2 ≤ n → (answer table q size .number ≡ n) ↔ (Applies table q size n × NoneBelow table q size n)

@@ -9,7 +9,7 @@ use native.Mathlib.Omega.{arith}
 use lib.ListN.{length, take, drop}
 use lib.Seq.{take-at}
 use Rattle.problem.specs.declared.Request.{Request}
-use Rattle.problem.specs.Table.{mostAllowance, replySize, Bytes, arcsOf}
+use Rattle.problem.specs.Table.{mostReach, mostAllowance, replySize, Bytes, arcsOf}
 use Rattle.problem.specs.Routes.{Route, metresOf}
 use Rattle.problem.specs.Pairs.{pair, sharedRisks, sharedCount, total, judged, NoWorse, ofRank, floor}
 use Rattle.problem.specs.Reply.{answer, after, sharedIn, rankedIn, mainMetresIn, standbyMetresIn, totalIn, sharedRisksIn, mainIn, standbyIn}
@@ -98,6 +98,16 @@ module _ {table : List ℕ} {q : Request} {before now : List ℕ} {number : ℕ}
     pub call-no-better : number ≡ 0 → (u v : List ℕ) → WayOf table q u → WayOf table q v
         → NoWorse (sharedIn reply) (totalIn reply) (sharedCount (pairMadeOf (arcsOf table) u v)) (total (pairMadeOf (arcsOf table) u v))
     call-no-better e = rw (replied answered) (promised.settled-no-better table q (length before) (low answered) (zero-is e))
+
+  -- ==== Request T-10
+
+  -- no route in the bytes is longer than 62,000,000 metres
+  pub call-within : number < 2 → (mainMetresIn reply ≤ mostReach) × (standbyMetresIn reply ≤ mostReach)
+  call-within h = rw (replied h) (promised.reply-within table q (length before) (low h))
+
+  -- number 11 has ended: it is returned for no call
+  pub call-never-eleven : number ≡ 11 → ⊥
+  call-never-eleven e = promised.never-eleven table q (length before) (sym (c .number-is) ∙ e)
 
 -- two calls on the same buffer, the second with a larger permitted allowance
 module _ {table : List ℕ} {q : Request} {b : ℕ} {before now later : List ℕ} {first second : ℕ} (c : Called table q before first now) (d : Called table (allowing q b) before second later)

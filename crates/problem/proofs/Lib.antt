@@ -2,6 +2,7 @@ pub mod ByteLaws
 pub mod ExposureLaws
 pub mod TableLaws
 pub mod RouteLaws
+pub mod PathLaws
 pub mod GrowthLaws
 pub mod RankingLaws
 pub mod PairLaws

@@ -1,17 +1,18 @@
--- Number 12: where it is printed, and that no answer of the entry is printed so. Assumes nothing.
-use mathlib.Core.Path.{_≡_, refl, sym, ap, _∙_, subst}
+-- What is printed of a refusal says its number alone; so number 12 is printed just where it is looked for, and 11 nowhere. Assumes nothing.
+use mathlib.Core.Path.{_≡_, refl, sym, ap, _∙_}
 use mathlib.Core.Bool.{Bool, true, false, _||_, not, or-true}
 use mathlib.Core.Logic.{_⊎_, inl, inr, _↔_}
 use mathlib.Core.List.{List, [], _∷_, _++_}
-use Prim.Native.Nat.{ℕ, zero, suc, _+_, _≤_, _<_}
+use Prim.Native.Nat.{ℕ, zero, suc, _+_, _*_, _-_, _/_, _^_, _≤_, _<_}
+use native.Mathlib.Nat.{pow-suc}
 use native.Mathlib.Omega.{arith}
 use lib.Dec.{eqb, ltb}
 use lib.ListN.{length, getD, drop}
-use borrow.Author.Tests.{ltb-true, ltb-false, lt-ltb, eqb-true, eqb-false, ne-eqb, not-true}
+use borrow.Author.Tests.{ltb-true, lt-ltb, eqb-true, eqb-false, ne-eqb, not-true}
 use Rattle.laws.proofs.BoolLaws.{or-cases}
 use Rattle.problem.specs.Table.{replySize, numberAt}
 use Rattle.problem.specs.Opened.{opened}
-use Rattle.problem.specs.Reply.{Answer, refuse, answer, verdictIn}
+use Rattle.problem.specs.Reply.{Answer, answer, verdictIn}
 use Rattle.problem.specs.Printed.{text, digits, fields, lines, printed, requestOf, faulty, Unreadable, output}
 use Rattle.problem.proofs.CallLaws.{number-range}
 
@@ -59,53 +60,92 @@ faulty-exactly input = (λ e. to (or-cases (ltb (length input) 16 || not (eqb (n
 
 -- ---- the text
 
+-- the number that decimal digits say, read on from n; what is no digit says 0
+readOn : ℕ → List ℕ → ℕ
+readOn n [] = n
+readOn n (c ∷ l) = readOn (10 * n + (c - 48)) l
+
+read-append : (n : ℕ) (l r : List ℕ) → readOn n (l ++ r) ≡ readOn (readOn n l) r
+unfolding readOn
+read-append n [] r = refl
+read-append n (c ∷ l) r = read-append (10 * n + (c - 48)) l r
+
+-- a number is read back from its digits
+digits-read : (n x : ℕ) → x < 10 ^ n → readOn 0 (digits n x) ≡ x
+unfolding digits readOn
+digits-read zero x h = omega arith
+digits-read (suc n) x h = go (ltb x 10) refl (digits-read n (x / 10) (omega (arith, rw pow-suc at h)))
+  where
+    go : (s : Bool) → ltb x 10 ≡ s → readOn 0 (digits n (x / 10)) ≡ x / 10 → readOn 0 (digits (suc n) x) ≡ x
+    go true e ih = rw (e, digits) (omega arith)
+    go false e ih = rw (e, digits, read-append 0 (digits n (x / 10)), ih) (omega arith)
+
+-- the text of a refusal
+abbrev refusedText : ℕ → List ℕ
+refusedText n = text "refused" ++ fields (n ∷ [])
+
+-- says its number: behind the word and a space stand its digits
+refused-read : (n : ℕ) → n < 10 ^ 10 → readOn 0 (drop 8 (refusedText n)) ≡ 10 * n
+unfolding fields text readOn
+refused-read n h = rw (read-append 0 (digits 10 n), digits-read 10 n h) (omega arith)
+
+refused-same : {m n : ℕ} → m < 10 ^ 10 → n < 10 ^ 10 → refusedText m ≡ refusedText n → m ≡ n
+refused-same {m} {n} h b e = omega (arith, refused-read m h, refused-read n b, ap (λ (l : List ℕ). readOn 0 (drop 8 l)) e)
+
 -- a reply's text begins with another letter
-not-lines : (reply : List ℕ) → lines reply ≡ text "refused 12\n" → ⊥
+not-lines : (reply : List ℕ) (n : ℕ) → lines reply ≡ refusedText n → ⊥
 unfolding lines text
-not-lines reply e = go (eqb (verdictIn reply) 0) refl
+not-lines reply n e = go (eqb (verdictIn reply) 0) refl
   where
     go : (s : Bool) → eqb (verdictIn reply) 0 ≡ s → ⊥
     go true q = omega (arith, ap (λ (l : List ℕ). getD l 0 0) (rw (q, lines) at e))
     go false q = omega (arith, ap (λ (l : List ℕ). getD l 0 0) (rw (q, lines) at e))
 
--- and a number up to 10 has one digit, or another second one
-not-number : (n : ℕ) → n ≤ 10 → text "refused" ++ fields (n ∷ []) ≡ text "refused 12\n" → ⊥
-unfolding fields digits text
-not-number n h e = go (ltb n 10) refl
-  where
-    go : (s : Bool) → ltb n 10 ≡ s → ⊥
-    go true q = omega (arith, ap length (rw (q, digits) at e))
-    go false q =
-        let ten : n ≡ 10 = omega (arith, ltb-false n 10 q) in
-        omega (arith, ap (λ (l : List ℕ). getD l 9 0) (subst (λ (x : ℕ). text "refused" ++ fields (x ∷ []) ≡ text "refused 12\n") ten e))
-
--- what is printed of an answer of the entry, whose numbers end at 10, is not that of number 12
-not-twelve : (a : Answer) → a .number ≤ 10 → printed a ≡ text "refused 12\n" → ⊥
+-- what is printed as refused by a number is refused by it
+printed-number : (a : Answer) (n : ℕ) → a .number < 10 ^ 10 → n < 10 ^ 10 → printed a ≡ refusedText n → a .number ≡ n
 unfolding printed
-not-twelve a h e = go (ltb (a .number) 2) refl
+printed-number a n h b e = go (ltb (a .number) 2) refl
   where
-    go : (s : Bool) → ltb (a .number) 2 ≡ s → ⊥
-    go true q = not-lines (a .reply) (rw (q, printed) at e)
-    go false q = not-number (a .number) h (rw (q, printed) at e)
+    go : (s : Bool) → ltb (a .number) 2 ≡ s → a .number ≡ n
+    go true q = absurd (not-lines (a .reply) n (rw (q, printed) at e))
+    go false q = refused-same h b (rw (q, printed) at e)
 
 past-twelve : (input : List ℕ) → faulty input ≡ false → output input ≡ printed (answer (drop 16 input) (requestOf input) replySize)
 unfolding output
 past-twelve input e = rw e
 
-at-twelve : (input : List ℕ) → faulty input ≡ true → output input ≡ printed (refuse 12)
-unfolding output
+at-twelve : (input : List ℕ) → faulty input ≡ true → output input ≡ refusedText 12
+unfolding output printed
 at-twelve input e = rw e
 
-text-of-twelve : printed (refuse 12) ≡ text "refused 12\n"
+text-of-eleven : refusedText 11 ≡ text "refused 11\n"
+unfolding opened
+text-of-eleven = refl
+
+text-of-twelve : refusedText 12 ≡ text "refused 12\n"
 unfolding opened
 text-of-twelve = refl
+
+-- an answer of the entry, whose numbers end at 10, is printed neither as 11 nor as 12
+entry-not-printed : (input : List ℕ) (n : ℕ) → 10 < n → n < 10 ^ 10 → printed (answer (drop 16 input) (requestOf input) replySize) ≡ refusedText n → ⊥
+entry-not-printed input n l h e =
+    let low = number-range (drop 16 input) (requestOf input) replySize in
+    omega (arith, low, printed-number (answer (drop 16 input) (requestOf input) replySize) n (omega (arith, low)) h e)
 
 pub twelve-exactly : (input : List ℕ) → (output input ≡ text "refused 12\n") ↔ Unreadable input
 twelve-exactly input = (λ e. to e (faulty input) refl, λ u. at-twelve input (faulty-exactly input .1 u) ∙ text-of-twelve)
   where
     to : output input ≡ text "refused 12\n" → (s : Bool) → faulty input ≡ s → Unreadable input
     to e true q = faulty-exactly input .0 q
-    to e false q = absurd (not-twelve (answer (drop 16 input) (requestOf input) replySize) (number-range (drop 16 input) (requestOf input) replySize) (sym (past-twelve input q) ∙ e))
+    to e false q = absurd (entry-not-printed input 12 (omega arith) (omega arith) (sym (past-twelve input q) ∙ e ∙ sym text-of-twelve))
+
+-- number 11 is printed for no input
+pub never-prints-eleven : (input : List ℕ) → output input ≡ text "refused 11\n" → ⊥
+never-prints-eleven input e = go (faulty input) refl
+  where
+    go : (s : Bool) → faulty input ≡ s → ⊥
+    go true q = omega (arith, refused-same {m = 12} {n = 11} (omega arith) (omega arith) (sym (at-twelve input q) ∙ e ∙ sym text-of-eleven))
+    go false q = entry-not-printed input 11 (omega arith) (omega arith) (sym (past-twelve input q) ∙ e ∙ sym text-of-eleven)
 
 -- otherwise what the entry answers is printed
 pub otherwise-answered : (input : List ℕ) → (Unreadable input → ⊥) → output input ≡ printed (answer (drop 16 input) (requestOf input) replySize)

@@ -1,4 +1,4 @@
--- The promises: the customer's three demands of every call, as theorems over the definitions of specs/. To know what is promised nothing else needs to be read.
+-- The promises: the customer's three demands of every call, and what his customers' requests add, as theorems over the definitions of specs/. To know what is promised nothing else needs to be read.
 -- A call has a table of any bytes, a request of any numbers and a reply buffer of any size; `answer` gives its number and the bytes that it writes.
 -- CallPromises.antt says the same of calls of the entry itself, by the number returned and the bytes in the buffer; the entry ends for every call. Assumes nothing.
 use mathlib.Core.Path.{_≡_, refl, sym, ap, _∙_, subst}
@@ -15,15 +15,15 @@ use Rattle.laws.specs.Choosing.{Pairwise, lexBy}
 use Rattle.laws.specs.Sets.{inBoth}
 use Rattle.problem.specs.declared.Arc.{Arc}
 use Rattle.problem.specs.declared.Request.{Request}
-use Rattle.problem.specs.Table.{riskWidth, mostAllowance, replySize, Bytes, arcsOf}
-use Rattle.problem.specs.Routes.{Route, metresOf, routeOf, precedes}
+use Rattle.problem.specs.Table.{mostArcs, riskWidth, mostReach, mostAllowance, replySize, Bytes, arcsOf, allSound}
+use Rattle.problem.specs.Routes.{metresOf, IsPath, Route, routeOf, precedes}
 use Rattle.problem.specs.Pairs.{Pair, pair, sharedRisks, sharedCount, total, judged, NoWorse, Step, ofRank, rankedKey, floor, every, leastSettled, ranked}
 use Rattle.problem.specs.Reply.{meshOf, answer, after, verdictIn, sharedIn, floorIn, rankedIn, mainMetresIn, standbyMetresIn, totalIn, sharedRisksIn, mainIn, standbyIn}
 use Rattle.problem.specs.Printed.{kilometres, text, printed, requestOf, Unreadable, output}
 use Rattle.problem.specs.Calls.{routesOf, RouteOf, WayOf, pairMadeOf, pairSaid, allowing, Applies}
+use Rattle.problem.proofs.PathLaws as PathLaws
 use Rattle.problem.proofs.RankingLaws.{ranking-exact, ranking-strict}
 use Rattle.problem.proofs.PairLaws as PairLaws
-use Rattle.problem.proofs.ReplyLaws.{sound-heads}
 use Rattle.problem.proofs.CallLaws.{WithPair, low-number, high-number, number-range, refused-told, answered-none, numbered}
 use Rattle.problem.proofs.SaidLaws as Said
 use Rattle.problem.proofs.PrintedLaws as Printed
@@ -64,10 +64,6 @@ module _ (table : List ℕ) (q : Request) (size : ℕ) where
       fits : Applies table q size 10 → (ks : List ℕ) → RouteOf table q ks → ⊥
       fits (Applies.no-route f) = f
 
-  -- number 11 is never given
-  pub never-eleven : number ≡ 11 → ⊥
-  never-eleven e = omega (arith, number-range table q size)
-
   -- a refusal leaves every byte of the buffer
   pub refusal-keeps-buffer : 2 ≤ number → (buffer : List ℕ) → after (answer table q size) buffer ≡ buffer
   unfolding after
@@ -101,7 +97,7 @@ module _ (table : List ℕ) (q : Request) (size : ℕ) where
     -- the ranking has every route and nothing else
     pub ranking-has : (ks : List ℕ) → List·Memᴰ (routeOf arcs ks) routes ↔ RouteOf table q ks
     ranking-has ks =
-        ranking-exact (meshOf table q) (sound-heads arcs (w .passed .checked .sound)) (w .passed .checked .source-node) ks
+        ranking-exact (meshOf table q) (PathLaws.sound-heads arcs (w .passed .checked .sound)) (w .passed .checked .source-node) ks
 
     -- the arc numbers in the bytes are routes
     pub reply-routes : RouteOf table q (mainIn reply) × RouteOf table q (standbyIn reply)
@@ -185,6 +181,35 @@ module _ (table : List ℕ) (q : Request) (size : ℕ) where
       never-worse =
           (Said.larger-answered w b more permitted, Said.no-worse-pair w b more permitted, rw (Said.said-is w, Said.said-is (Said.pair-allowing b w more permitted)) (Said.no-later w b more permitted))
 
+-- ==== Request T-10. "Show that with at most 31 arcs of at most 2,000,000 metres, no route passes 62,000,000, and take the number and its check out.
+-- ==== It isn't given to anything else."
+
+-- where all arcs are sound, a list of arcs that meets no node twice, from whichever node to whichever, has at most 31 arcs
+pub path-arcs : (arcs : List Arc) → allSound arcs ≡ true → (v to : ℕ) (ks : List ℕ) → IsPath arcs v to ks → length ks ≤ mostArcs
+path-arcs arcs sound v to ks = PathLaws.path-arcs arcs sound
+
+-- and is at most 62,000,000 metres long; no reach is asked for
+pub no-path-longer : (arcs : List Arc) → allSound arcs ≡ true → (v to : ℕ) (ks : List ℕ) → IsPath arcs v to ks → metresOf arcs ks ≤ mostReach
+no-path-longer arcs sound v to ks = PathLaws.path-range arcs sound
+
+-- so no route of a reply is longer
+pub reply-within : (table : List ℕ) (q : Request) (size : ℕ) → number table q size < 2
+    → (mainMetresIn (reply table q size) ≤ mostReach) × (standbyMetresIn (reply table q size) ≤ mostReach)
+reply-within table q size h =
+    let sound = low-number table q size h .passed .checked .sound in
+    let said = reply-metres table q size h in
+    let routed = reply-routes table q size h in
+    (omega (arith, said .0, PathLaws.path-range (arcsOf table) sound (routed .0 .path)), omega (arith, said .1, PathLaws.path-range (arcsOf table) sound (routed .1 .path)))
+
+-- and a reach of 62,000,000 metres sets no limit: the routes are all such lists from source to terminal
+pub largest-reach : (table : List ℕ) (q : Request) → allSound (arcsOf table) ≡ true → q .reach ≡ mostReach
+    → (ks : List ℕ) → RouteOf table q ks ↔ IsPath (arcsOf table) (q .source) (q .terminal) ks
+largest-reach table q sound e = PathLaws.largest-reach (meshOf table q) sound (omega arith)
+
+-- number 11 has ended: no call returns it
+pub never-eleven : (table : List ℕ) (q : Request) (size : ℕ) → number table q size ≡ 11 → ⊥
+never-eleven table q size e = omega (arith, number-range table q size)
+
 -- ==== Of any pair, and of any length
 
 -- the shared count is the size of the common risk set: of the 64 risks, how many are on both routes
@@ -208,3 +233,7 @@ twelve-exactly = Printed.twelve-exactly
 
 pub otherwise-answered : (input : List ℕ) → (Unreadable input → ⊥) → output input ≡ printed (answer (drop 16 input) (requestOf input) replySize)
 otherwise-answered = Printed.otherwise-answered
+
+-- number 11 has ended: it is printed for no input
+pub never-prints-eleven : (input : List ℕ) → output input ≡ text "refused 11\n" → ⊥
+never-prints-eleven = Printed.never-prints-eleven

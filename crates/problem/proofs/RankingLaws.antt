@@ -3,7 +3,7 @@ use mathlib.Core.Path.{_≡_, refl, sym, ap, _∙_, subst}
 use mathlib.Core.Logic.{_⊎_, inl, inr, _↔_}
 use mathlib.Core.Bool.{Bool, true, false}
 use mathlib.Core.List.{List, [], _++_, List·Memᴰ, Memᴰ·map, Memᴰ·of-map, tail-eq-of-cons-eq}
-use Prim.Native.Nat.{ℕ, _≤_, _<_}
+use Prim.Native.Nat.{ℕ, _≤_}
 use native.Mathlib.Omega.{arith}
 use lib.Dec.{ltb}
 use lib.ListN.{length, take}
@@ -13,10 +13,10 @@ use Rattle.laws.specs.Sets.{with}
 use Rattle.laws.proofs.ListLaws.{pairwise-map, pairwise-keep, keep-in, keep-out}
 use Rattle.laws.proofs.OrderLaws.{Total, Weak, total-weak, keyed-weak, ltb-total, lex-total, lex-true}
 use Rattle.laws.proofs.SortLaws.{Strict, sort-mem, sort-strict, keep-beginning}
-use Rattle.problem.specs.declared.Arc.{Arc}
 use Rattle.problem.specs.Table.{lastNode, mostArcs}
-use Rattle.problem.specs.Routes.{Mesh, arcAt, metresOf, Way, IsRoute, paths, Route, routeOf, routesFrom, rankKey, precedes, within, ranking}
-use Rattle.problem.proofs.RouteLaws.{Grown, grow-out, grow-in, grow-distinct, grown-exact, grown-short, grown-no-beginning, unmet-source}
+use Rattle.problem.specs.Routes.{Mesh, metresOf, Way, IsRoute, paths, Route, routeOf, routesFrom, rankKey, precedes, within, ranking}
+use Rattle.problem.proofs.RouteLaws.{Grown, grow-distinct, grown-exact, grown-no-beginning}
+use Rattle.problem.proofs.PathLaws.{LowHeads, path-short, paths-out, paths-in}
 
 -- ---- the order of routes
 
@@ -42,10 +42,6 @@ precedes-metres r s e = go (lex-true ltb ltb-total _ _ _ _ e)
 
 -- ---- the ranking
 
--- every head is one of the 32 nodes, as check 9 has it
-abbrev pub LowHeads : List Arc → Type 0
-LowHeads arcs = (k : ℕ) → k < length arcs → arcAt arcs k .head ≤ lastNode
-
 module _ (m : Mesh) where
   -- who stands in the ranking: a route of the definition, with its length and what it is exposed to
   pub record Listed (r : Route) : Type 0 where
@@ -65,8 +61,7 @@ module _ (m : Mesh) where
   ranking-out {r} x =
       let k = ranking-among .0 x in
       let o = Memᴰ·of-map (routeOf (m .arcs)) (paths m) (k .0) in
-      let g = grown-exact (m .arcs) (m .terminal) (m .source) (o .0) .0 (grow-out (m .arcs) (m .terminal) mostArcs (with 0 (m .source)) (m .source) (o .0) (o .1)) in
-      record { list = o .0; is = sym (o .2); route = record { way = g .0; no-node-twice = g .1; within-reach = short (o .0) (o .2) (k .1) } }
+      record { list = o .0; is = sym (o .2); route = record { path = paths-out (m .arcs) (o .1); within-reach = short (o .0) (o .2) (k .1) } }
     where
       short : (l : List ℕ) → routeOf (m .arcs) l ≡ r → within (m .reach) r ≡ true → metresOf (m .arcs) l ≤ m .reach
       short l e w = omega (arith, leb-true (r .metres) (m .reach) w, ap (λ (s : Route). s .metres) e)
@@ -74,9 +69,7 @@ module _ (m : Mesh) where
   pub ranking-in : LowHeads (m .arcs) → m .source ≤ lastNode → {ks : List ℕ} → IsRoute m ks → List·Memᴰ (routeOf (m .arcs) ks) (ranking m)
   unfolding routesFrom within routeOf
   ranking-in low s {ks} r =
-      let g = grown-exact (m .arcs) (m .terminal) (m .source) ks .1 (r .way, r .no-node-twice) in
-      let x = grow-in (m .arcs) (m .terminal) mostArcs (omega (arith, grown-short (m .arcs) (m .terminal) low g, unmet-source (m .source) s)) g in
-      ranking-among .1 (Memᴰ·map (routeOf (m .arcs)) x, le-leb (metresOf (m .arcs) ks) (m .reach) (r .within-reach))
+      ranking-among .1 (Memᴰ·map (routeOf (m .arcs)) (paths-in (m .arcs) low s (r .path)), le-leb (metresOf (m .arcs) ks) (m .reach) (r .within-reach))
 
   -- the listed routes are exactly the routes of the definition
   pub ranking-exact : LowHeads (m .arcs) → m .source ≤ lastNode → (ks : List ℕ) → List·Memᴰ (routeOf (m .arcs) ks) (ranking m) ↔ IsRoute m ks
@@ -110,18 +103,17 @@ module _ (m : Mesh) where
 
   -- a route has 1 to 31 arcs
   pub route-some : (m .source ≡ m .terminal → ⊥) → {ks : List ℕ} → IsRoute m ks → 1 ≤ length ks
-  route-some ne {ks} r = go (r .way)
+  route-some ne {ks} r = go (r .path .way)
     where
       go : {ls : List ℕ} → Way (m .arcs) (m .source) (m .terminal) ls → 1 ≤ length ls
       go (Way.there e) = absurd (ne e)
       go (Way.over b t w) = omega arith
 
   pub route-short : LowHeads (m .arcs) → m .source ≤ lastNode → {ks : List ℕ} → IsRoute m ks → length ks ≤ mostArcs
-  route-short low s {ks} r =
-      omega (arith, grown-short (m .arcs) (m .terminal) low (grown-exact (m .arcs) (m .terminal) (m .source) ks .1 (r .way, r .no-node-twice)), unmet-source (m .source) s)
+  route-short low s r = path-short (m .arcs) low s (r .path)
 
   -- no route is the beginning of another
   pub route-no-beginning : {ks ls more : List ℕ} → IsRoute m ks → IsRoute m ls → ls ≡ ks ++ more → more ≡ []
   route-no-beginning {ks} {ls} {more} r s e =
-      grown-no-beginning (m .arcs) (m .terminal) more (grown-exact (m .arcs) (m .terminal) (m .source) ks .1 (r .way, r .no-node-twice))
-      (subst (λ (l : List ℕ). Grown (m .arcs) (m .terminal) (with 0 (m .source)) (m .source) l) e (grown-exact (m .arcs) (m .terminal) (m .source) ls .1 (s .way, s .no-node-twice)))
+      grown-no-beginning (m .arcs) (m .terminal) more (grown-exact (m .arcs) (m .terminal) (m .source) ks .1 (r .path))
+      (subst (λ (l : List ℕ). Grown (m .arcs) (m .terminal) (with 0 (m .source)) (m .source) l) e (grown-exact (m .arcs) (m .terminal) (m .source) ls .1 (s .path)))

@@ -13,7 +13,7 @@ use Rattle.laws.proofs.BoolLaws.{or-cases, neither}
 use Rattle.problem.specs.declared.Request.{Request}
 use Rattle.problem.specs.Table.{lastNode, mostReach, mostAllowance, mostTableBytes, replySize, arcsOf, arcsNumber, allSound}
 use Rattle.problem.specs.Reply.{firstNumber, sizeChecks, requestChecks, arcChecks, refusal, Passed}
-use Rattle.problem.specs.Calls.{RouteOf, chosen, Applies}
+use Rattle.problem.specs.Calls.{RouteOf, Applies}
 use Rattle.problem.proofs.TableLaws.{number-unsound, number-nine, sound-at}
 
 module _ (table : List ℕ) (q : Request) (size : ℕ) where
@@ -38,8 +38,6 @@ module _ (table : List ℕ) (q : Request) (size : ℕ) where
   from-two (Applies.allowance-too-large h) = omega arith
   from-two (Applies.arc-out-of-range k b h) = omega arith
   from-two (Applies.no-route h) = omega arith
-  from-two (Applies.main-too-long h) = omega arith
-  from-two (Applies.standby-too-long h) = omega arith
 
   -- one test more that does not hold
   none-next : (n : ℕ) → NoneBelow n → (Applies table q size n → ⊥) → NoneBelow (suc n)
@@ -106,8 +104,6 @@ module _ (table : List ℕ) (q : Request) (size : ℕ) where
   -- what can still hold where the checks have passed
   pub data Later : ℕ → Type 0 where
     no-route : ((ks : List ℕ) → RouteOf table q ks → ⊥) → Later 10
-    main-too-long : mostReach < chosen table q .main .metres → Later 11
-    standby-too-long : mostReach < chosen table q .standby .metres → Later 11
 
   pub passed-later : Passed table q size → {i : ℕ} → Applies table q size i → Later i
   passed-later p (Applies.table-too-long h) = absurd (omega (arith, p .checked .few-bytes))
@@ -121,13 +117,9 @@ module _ (table : List ℕ) (q : Request) (size : ℕ) where
   passed-later p (Applies.allowance-too-large h) = absurd (omega (arith, p .checked .allowance-range))
   passed-later p (Applies.arc-out-of-range k b h) = absurd (h (sound-at (arcsOf table) (p .checked .sound) k b))
   passed-later p (Applies.no-route h) = Later.no-route h
-  passed-later p (Applies.main-too-long h) = Later.main-too-long h
-  passed-later p (Applies.standby-too-long h) = Later.standby-too-long h
 
   pub passed-below : Passed table q size → NoneBelow 10
   passed-below p i l a = go (passed-later p a) l
     where
       go : {i : ℕ} → Later i → i < 10 → ⊥
       go (Later.no-route h) l = omega arith
-      go (Later.main-too-long h) l = omega arith
-      go (Later.standby-too-long h) l = omega arith

@@ -10,17 +10,16 @@ use lib.Seq.{take-append-seam, take-append-le, drop-at}
 use borrow.Author.Tests.{ltb-false, le-ltb, eqb-true, eqb-false, eq-eqb, ne-eqb, not-false}
 use Rattle.laws.specs.Choosing.{if_then_else_}
 use Rattle.laws.proofs.BoolLaws.{neither}
-use Rattle.problem.specs.declared.Arc.{Arc}
 use Rattle.problem.specs.declared.Request.{Request}
 use Rattle.problem.specs.Table.{lastNode, mostArcs, mostReach, mostAllowance, mostTableBytes, replySize, bytesOf, arcsOf, arcsNumber, allSound}
 use Rattle.problem.specs.Routes.{Route, routeOf}
 use Rattle.problem.specs.Pairs.{Step, Pair, sharedRisks, sharedCount, floor, every, best, ranked, verdict}
 use Rattle.problem.specs.Reply.{meshOf, Answer, refuse, placesOf, replyOf, verdictIn, sharedIn, floorIn, rankedIn, mainMetresIn, standbyMetresIn, sharedRisksIn, mainIn, standbyIn, firstNumber, sizeChecks, requestChecks, arcChecks, refusal, Checked, Passed, planned, answerUnless, answer}
-use Rattle.problem.specs.Calls.{routesOf, chosen}
+use Rattle.problem.specs.Calls.{routesOf}
 use Rattle.problem.proofs.ByteLaws.{field-at}
-use Rattle.problem.proofs.TableLaws.{sound-at, number-sound, number-nine}
-use Rattle.problem.proofs.RankingLaws.{LowHeads, ranking-out}
-use Rattle.problem.proofs.CandidateLaws.{best-in, best-main, every-some}
+use Rattle.problem.proofs.TableLaws.{number-sound, number-nine}
+use Rattle.problem.proofs.PathLaws.{path-range}
+use Rattle.problem.proofs.RankingLaws.{ranking-out}
 use Rattle.problem.proofs.SettleLaws.{least-settled-step}
 
 -- ---- the checks
@@ -109,6 +108,10 @@ refusal-number table q size n e =
 
 -- ---- how a call ends
 
+-- the pair of the answer: best(ranked)
+abbrev pub chosen : List ℕ → Request → Pair
+chosen table q = best every (routesOf table q) (ranked every (routesOf table q) (q .allowance))
+
 -- the answer where there is a route
 abbrev pub answered : List ℕ → Request → Answer
 answered table q =
@@ -125,32 +128,28 @@ pub data Outcome (table : List ℕ) (q : Request) (size : ℕ) : Type 0 where
   -- with 0 or 1
   with-pair : Passed table q size → 0 < length (routesOf table q) → answer table q size ≡ answered table q → Outcome table q size
 
-pub sound-heads : (arcs : List Arc) → allSound arcs ≡ true → LowHeads arcs
-sound-heads arcs h k l = sound-at arcs h k l .head-node
-
 pub ranked-step : (routes : List Route) (allowance : ℕ) → 0 < length routes → 0 < allowance → Step routes (ranked every routes allowance)
 unfolding ranked
 ranked-step routes allowance h a = let s = least-settled-step every routes h in record { from-one = omega (arith, s .from-one); to-N = omega (arith, s .to-N) }
 
--- every route of a call is within 62,000,000, so number 11 is never given
+-- no route of a call is longer than 62,000,000 metres, whatever the reach
 pub route-range : {table : List ℕ} {q : Request} → Checked table q → {r : Route} → List·Memᴰ r (routesOf table q) → r .metres ≤ mostReach
 unfolding routeOf
 route-range {table} {q} p m =
     let o = ranking-out (meshOf table q) m in
-    omega (arith, o .route .within-reach, p .reach-range, ap (λ (r : Route). r .metres) (o .is))
+    omega (arith, path-range (arcsOf table) (p .sound) (o .route .path), ap (λ (r : Route). r .metres) (o .is))
 
 planned-none : (routes : List Route) (allowance : ℕ) → length routes ≡ 0 → (routes ≡ []) × (planned routes allowance ≡ refuse 10)
 unfolding planned
 planned-none [] allowance e = (refl, refl)
 planned-none (r ∷ routes) allowance e = absurd (omega arith)
 
-planned-some : (routes : List Route) (allowance : ℕ) → 0 < length routes → best every routes (ranked every routes allowance) .main .metres ≤ mostReach
-    → best every routes (ranked every routes allowance) .standby .metres ≤ mostReach
+planned-some : (routes : List Route) (allowance : ℕ) → 0 < length routes
     → planned routes allowance
     ≡ record { number = verdict every routes allowance; reply = replyOf (verdict every routes allowance) (floor routes) (ranked every routes allowance) (best every routes (ranked every routes allowance)) }
 unfolding planned
-planned-some [] allowance h m s = absurd (omega arith)
-planned-some (r ∷ routes) allowance h m s = rw (le-ltb mostReach _ m, le-ltb mostReach _ s)
+planned-some [] allowance h = absurd (omega arith)
+planned-some (r ∷ routes) allowance h = refl
 
 pub outcome : (table : List ℕ) (q : Request) (size : ℕ) → Outcome table q size
 unfolding answer answerUnless
@@ -158,14 +157,7 @@ outcome table q size = by-number (refusal table q size) refl
   where
     by-length : Passed table q size → (n : ℕ) → length (routesOf table q) ≡ n → planned (routesOf table q) (q .allowance) ≡ answer table q size → Outcome table q size
     by-length p zero e f = let o = planned-none (routesOf table q) (q .allowance) e in no-route p (o .0) (sym f ∙ o .1)
-    by-length p (suc n) e f =
-        let some : 0 < length (routesOf table q) = omega arith in
-        let step = ranked every (routesOf table q) (q .allowance) in
-        let s = every-some (routesOf table q) (ranked-step (routesOf table q) (q .allowance) some (p .checked .some-allowance)) in
-        with-pair p some
-        (sym f
-        ∙ planned-some (routesOf table q) (q .allowance) some (route-range (p .checked) (best-main every (routesOf table q) step s))
-        (route-range (p .checked) (best-in every (routesOf table q) step s .standby-in)))
+    by-length p (suc n) e f = let some : 0 < length (routesOf table q) = omega arith in with-pair p some (sym f ∙ planned-some (routesOf table q) (q .allowance) some)
 
     by-number : (n : ℕ) → refusal table q size ≡ n → Outcome table q size
     by-number zero e = by-length (refusal-passed table q size e) (length (routesOf table q)) refl (ap (λ (x : ℕ). answerUnless x table q) (sym e))

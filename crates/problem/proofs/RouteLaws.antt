@@ -1,4 +1,4 @@
--- Depth-first growth lists exactly the routes, none twice, none the beginning of another, each of at most 31 arcs. Assumes nothing.
+-- Depth-first growth lists exactly the paths, none twice, none the beginning of another, each of no more arcs than there are nodes unmet. Assumes nothing.
 use mathlib.Core.Path.{_≡_, refl, sym, ap, _∙_, subst}
 use mathlib.Core.Logic.{_⊎_, inl, inr, _↔_}
 use mathlib.Core.Bool.{Bool, true, false, false≢true}
@@ -15,7 +15,7 @@ use Rattle.laws.proofs.ListLaws.{pairwise-append, pairwise-map, pairwise-head, 
 use Rattle.laws.proofs.SetLaws.{digit, bit-with, bit-single, bit-empty, unmet-empty, unmet-with}
 use Rattle.problem.specs.declared.Arc.{Arc}
 use Rattle.problem.specs.Table.{lastNode}
-use Rattle.problem.specs.Routes.{arcAt, nodesFrom, Way, opens, sprout, grow}
+use Rattle.problem.specs.Routes.{arcAt, nodesFrom, Way, IsPath, opens, sprout, grow}
 
 -- ---- an arc that opens
 
@@ -219,12 +219,12 @@ module _ (arcs : List Arc) (terminal : ℕ) where
       (way-grown w (pairwise-tail d)
       (λ x m ne. rw (bit-with, ne-eqb x h (λ q. ne (sym q))) (omega (arith, f x (List·Memᴰ·tail m) (other x m)))))
 
-  -- a list of arc numbers is grown from `source` exactly where it is a way that meets no node twice
-  pub grown-exact : (source : ℕ) (ks : List ℕ) → Grown (with 0 source) source ks ↔ (Way arcs source terminal ks × Distinct (nodesFrom arcs source ks))
+  -- a list of arc numbers is grown from `source` exactly where it is a path
+  pub grown-exact : (source : ℕ) (ks : List ℕ) → Grown (with 0 source) source ks ↔ IsPath arcs source terminal ks
   unfolding digit
   grown-exact source ks = (
-    λ g. (grown-way g, grown-distinct (rw (bit-single, eq-eqb source source refl)) g),
-    λ p. way-grown (p .0) (p .1) (λ h m ne. rw (bit-single, ne-eqb h source (λ q. ne (sym q)))),
+    λ g. record { way = grown-way g; no-node-twice = grown-distinct (rw (bit-single, eq-eqb source source refl)) g },
+    λ p. way-grown (p .way) (p .no-node-twice) (λ h m ne. rw (bit-single, ne-eqb h source (λ q. ne (sym q)))),
   )
 
 -- 31 nodes besides the source

@@ -16,16 +16,17 @@ use Rattle.problem.specs.Table.{mostArcs, riskWidth, mostAllowance, repl
 use Rattle.problem.specs.Routes.{Route, metresOf, routeOf, precedes}
 use Rattle.problem.specs.Pairs.{Pair, pair, sharedRisks, sharedCount, total, judged, NoWorse, noRoute, ofRank, floor, every, best, settled, leastSettled, ranked, verdict}
 use Rattle.problem.specs.Reply.{meshOf, Answer, replyOf, answer, verdictIn, sharedIn, floorIn, rankedIn, mainMetresIn, standbyMetresIn, totalIn, sharedRisksIn, mainIn, standbyIn, Passed}
-use Rattle.problem.specs.Calls.{routesOf, RouteOf, WayOf, chosen, pairMadeOf, pairSaid, allowing}
+use Rattle.problem.specs.Calls.{routesOf, RouteOf, WayOf, pairMadeOf, pairSaid, allowing}
 use Rattle.problem.proofs.ExposureLaws.{common-risks-below}
 use Rattle.problem.proofs.TableLaws.{risks-below}
+use Rattle.problem.proofs.PathLaws.{sound-heads}
 use Rattle.problem.proofs.RankingLaws.{Listed, ranking-out, ranking-strict, route-short}
 use Rattle.problem.proofs.PairLaws.{judged-no-worse}
 use Rattle.problem.proofs.CandidateLaws.{best-in, best-main, best-least, every-even}
 use Rattle.problem.proofs.SettleLaws.{ByLength, settled-cases, settled-by, least-settled, least-settled-inside, main-not-after, settled-no-better}
 use Rattle.problem.proofs.WayLaws.{part-shared, part-total, way-route}
 use Rattle.problem.proofs.WindowLaws.{judged-same, J-le, best-allowed}
-use Rattle.problem.proofs.ReplyLaws.{sound-heads, route-range, reply-verdict, reply-shared, reply-floor, reply-ranked, reply-main-metres, reply-standby-metres, reply-shared-risks, reply-main, reply-standby, reply-length}
+use Rattle.problem.proofs.ReplyLaws.{chosen, route-range, reply-verdict, reply-shared, reply-floor, reply-ranked, reply-main-metres, reply-standby-metres, reply-shared-risks, reply-main, reply-standby, reply-length}
 use Rattle.problem.proofs.CallLaws.{WithPair, Verdict, verdict-cases, verdict-settled, verdict-stopped, verdict-small, some-route, pair-step, some-pair}
 
 -- ---- shared count and total, compared

@@ -8,20 +8,19 @@ use native.Mathlib.Omega.{arith}
 use lib.Dec.{ltb}
 use borrow.Author.Tests.{ltb-false}
 use Rattle.laws.specs.Choosing.{Pairwise, Distinct, keep, firstBy}
-use Rattle.laws.specs.Sets.{with}
 use Rattle.laws.proofs.ListLaws.{keep-in, keep-out, pairwise-tail}
 use Rattle.laws.proofs.PartLaws.{Part, part-whole, part-trans, mem-or-not}
 use Rattle.laws.proofs.OrderLaws.{ltb-total, total-weak}
 use Rattle.laws.proofs.FirstLaws.{first-mem, first-least}
 use Rattle.problem.specs.declared.Arc.{Arc}
 use Rattle.problem.specs.declared.Exposure.{Exposure}
-use Rattle.problem.specs.Table.{lastNode, mostArcs, mostShared}
+use Rattle.problem.specs.Table.{lastNode, mostShared}
 use Rattle.problem.specs.Exposures.{exposed, ofArc, joined, disjoint}
-use Rattle.problem.specs.Routes.{Mesh, arcAt, metresOf, exposureOf, nodesFrom, Way, IsWay, pathsFrom, Route, routeOf, routesFrom, ranking, FreeWay, freeLengths, shortest}
+use Rattle.problem.specs.Routes.{Mesh, arcAt, metresOf, exposureOf, nodesFrom, Way, IsWay, IsPath, pathsFrom, Route, routeOf, routesFrom, ranking, FreeWay, freeLengths, shortest}
 use Rattle.problem.specs.Pairs.{pair, sharedCount, total, onEvery}
 use Rattle.problem.proofs.ExposureLaws.{exposed-le-one, exposed-joined, joined-assoc, nothing-joined, Inside, disjoint-inside}
-use Rattle.problem.proofs.RouteLaws.{grow-out, grow-in, grown-exact, grown-short, unmet-source}
-use Rattle.problem.proofs.RankingLaws.{LowHeads, ranking-in, ranking-out}
+use Rattle.problem.proofs.PathLaws.{LowHeads, paths-out, paths-in}
+use Rattle.problem.proofs.RankingLaws.{ranking-in, ranking-out}
 use Rattle.problem.proofs.PairLaws.{shared-mono, every-inside, every-all}
 
 -- ---- two ways, one after the other
@@ -68,18 +67,17 @@ module _ (arcs : List Arc) where
 -- ---- loops cut out
 
 module _ (arcs : List Arc) (terminal : ℕ) where
-  -- what ks holds: a part of it that leads from v to the terminal and meets no node twice
+  -- what ks holds: a part of it that is a path from v to the terminal
   pub record Held (v : ℕ) (ks : List ℕ) : Type 0 where
     pub list : List ℕ
-    pub way : Way arcs v terminal list
-    pub no-node-twice : Distinct (nodesFrom arcs v list)
+    pub path : IsPath arcs v terminal list
     pub part : Part list ks
 
   held-in : {u v : ℕ} {ks ls : List ℕ} → v ≡ u → Part ks ls → Held u ks → Held v ls
-  held-in {ls = ls} e p h = subst (λ (x : ℕ). Held x ls) (sym e) (record { list = h .list; way = h .way; no-node-twice = h .no-node-twice; part = part-trans (h .part) p })
+  held-in {ls = ls} e p h = subst (λ (x : ℕ). Held x ls) (sym e) (record { list = h .list; path = h .path; part = part-trans (h .part) p })
 
   held-whole : {v : ℕ} {ks : List ℕ} → Way arcs v terminal ks → Distinct (nodesFrom arcs v ks) → Held v ks
-  held-whole {v} {ks} w d = record { list = ks; way = w; no-node-twice = d; part = part-whole ks }
+  held-whole {v} {ks} w d = record { list = ks; path = record { way = w; no-node-twice = d }; part = part-whole ks }
 
   -- from a node that is met, the rest leads on
   held-from : {u : ℕ} {ks : List ℕ} (v : ℕ) → Way arcs u terminal ks → Distinct (nodesFrom arcs u ks) → List·Memᴰ v (nodesFrom arcs u ks) → Held v ks
@@ -101,9 +99,13 @@ module _ (arcs : List Arc) (terminal : ℕ) where
   way-held {v} (Way.over {k = k} {ks = ks} b t w) = go (way-held w)
     where
       put : (h : Held (arcAt arcs k .head) ks) → List·Memᴰ v (nodesFrom arcs (arcAt arcs k .head) (h .list)) ⊎ (List·Memᴰ v (nodesFrom arcs (arcAt arcs k .head) (h .list)) → ⊥) → Held v (k ∷ ks)
-      put h (inl m) = held-in refl (Part.past (h .part)) (held-from v (h .way) (h .no-node-twice) m)
+      put h (inl m) = held-in refl (Part.past (h .part)) (held-from v (h .path .way) (h .path .no-node-twice) m)
       put h (inr n) =
-          record { list = k ∷ h .list; way = Way.over {k = k} b t (h .way); no-node-twice = Pairwise.one (λ x m q. n (Memᴰ·cast q m)) (h .no-node-twice); part = Part.with-it (h .part) }
+          record {
+            list = k ∷ h .list;
+            path = record { way = Way.over {k = k} b t (h .path .way); no-node-twice = Pairwise.one (λ x m q. n (Memᴰ·cast q m)) (h .path .no-node-twice) };
+            part = Part.with-it (h .part);
+          }
 
       go : Held (arcAt arcs k .head) ks → Held v (k ∷ ks)
       go h = put h (mem-or-not v (nodesFrom arcs (arcAt arcs k .head) (h .list)))
@@ -122,7 +124,7 @@ module _ (m : Mesh) (low : LowHeads (m .arcs)) (node : m .source ≤ lastNode) w
       let h = way-held (m .arcs) (m .terminal) (w .way) in
       record {
         list = h .list;
-        ranked = ranking-in m low node (record { way = h .way; no-node-twice = h .no-node-twice; within-reach = omega (arith, part-metres (m .arcs) (h .part), w .within-reach) });
+        ranked = ranking-in m low node (record { path = h .path; within-reach = omega (arith, part-metres (m .arcs) (h .part), w .within-reach) });
         part = h .part;
       }
 
@@ -132,7 +134,7 @@ module _ (m : Mesh) (low : LowHeads (m .arcs)) (node : m .source ≤ lastNode) w
   every-ways b h = (
     λ e ks w. let f = way-route w in omega (arith, exposed-le-one (exposureOf (m .arcs) ks) b, part-exposure (m .arcs) (f .part) b, every-inside (ranking m) (f .ranked) b),
     λ f. every-all (ranking m) b h
-        (λ r x. let o = ranking-out m x in ap (λ (s : Route). exposed (s .exposure) b) (o .is) ∙ f (o .list) (record { way = o .route .way; within-reach = o .route .within-reach })),
+        (λ r x. let o = ranking-out m x in ap (λ (s : Route). exposed (s .exposure) b) (o .is) ∙ f (o .list) (record { way = o .route .path .way; within-reach = o .route .within-reach })),
   )
 
 -- ---- the shortest length free of what is banned
@@ -144,10 +146,9 @@ module _ (arcs : List Arc) (banned : Exposure) (terminal v : ℕ) where
   free-length-way m =
       let o = Memᴰ·of-map (λ (r : Route). r .metres) (keep (λ (r : Route). disjoint (r .exposure) banned) (routesFrom arcs terminal v)) m in
       let k = keep-out (λ (r : Route). disjoint (r .exposure) banned) (routesFrom arcs terminal v) (o .1) in
-      let p = Memᴰ·of-map (routeOf arcs) (pathsFrom arcs terminal v) (k .0) in
-      let g = grown-exact arcs terminal v (p .0) .0 (grow-out arcs terminal mostArcs (with 0 v) v (p .0) (p .1)) in (
+      let p = Memᴰ·of-map (routeOf arcs) (pathsFrom arcs terminal v) (k .0) in (
         p .0,
-        record { way = g .0; free = ap (λ (r : Route). disjoint (r .exposure) banned) (p .2) ∙ k .1 },
+        record { way = paths-out arcs (p .1) .way; free = ap (λ (r : Route). disjoint (r .exposure) banned) (p .2) ∙ k .1 },
         ap (λ (r : Route). r .metres) (p .2) ∙ o .2,
       )
 
@@ -155,12 +156,10 @@ module _ (arcs : List Arc) (banned : Exposure) (terminal v : ℕ) where
   pub free-way-length : LowHeads arcs → v ≤ lastNode → {ks : List ℕ} → FreeWay arcs banned terminal v ks → (x : ℕ) × List·Memᴰ x (freeLengths arcs banned terminal v) × (x ≤ metresOf arcs ks)
   unfolding freeLengths routesFrom routeOf
   free-way-length low node {ks} w =
-      let h = way-held arcs terminal (w .way) in
-      let g = grown-exact arcs terminal v (h .list) .1 (h .way, h .no-node-twice) in
-      let m = grow-in arcs terminal mostArcs (omega (arith, grown-short arcs terminal low g, unmet-source v node)) g in (
+      let h = way-held arcs terminal (w .way) in (
         metresOf arcs (h .list),
         Memᴰ·map (λ (r : Route). r .metres)
-            (keep-in (λ (r : Route). disjoint (r .exposure) banned) (routesFrom arcs terminal v) (Memᴰ·map (routeOf arcs) m)
+            (keep-in (λ (r : Route). disjoint (r .exposure) banned) (routesFrom arcs terminal v) (Memᴰ·map (routeOf arcs) (paths-in arcs low node (h .path)))
             (disjoint-inside (exposureOf arcs (h .list)) (exposureOf arcs ks) banned (part-exposure arcs (h .part)) (w .free))),
         part-metres arcs (h .part),
       )

@@ -7,7 +7,7 @@ use Rattle.problem.specs.declared.Arc.{Arc}
 use Rattle.problem.specs.declared.Request.{Request}
 use Rattle.problem.specs.Table.{lastNode, mostReach, mostAllowance, mostTableBytes, replySize, arcsOf, SoundArc}
 use Rattle.problem.specs.Routes.{Route, IsRoute, IsWay, arcAt, routeOf, ranking}
-use Rattle.problem.specs.Pairs.{Pair, pair, every, best, ranked}
+use Rattle.problem.specs.Pairs.{Pair, pair}
 use Rattle.problem.specs.Reply.{request, meshOf, answer, after, mainIn, standbyIn}
 
 -- the routes of a call, in their ranking; N is how many there are
@@ -21,10 +21,6 @@ RouteOf table q = IsRoute (meshOf table q)
 -- and one that is a way of the call: loops, and arcs taken twice, are allowed
 abbrev pub WayOf : List ℕ → Request → List ℕ → Type 0
 WayOf table q = IsWay (meshOf table q)
-
--- the pair of the answer: best(ranked)
-abbrev pub chosen : List ℕ → Request → Pair
-chosen table q = best every (routesOf table q) (ranked every (routesOf table q) (q .allowance))
 
 -- the pair made of two lists of arc numbers, and the one that the bytes of a reply say
 abbrev pub pairMadeOf : List Arc → (main standby : List ℕ) → Pair
@@ -50,8 +46,6 @@ pub data Applies (table : List ℕ) (q : Request) (size : ℕ) : ℕ → Type 0 
   allowance-too-large : mostAllowance < q .allowance → Applies table q size 8
   arc-out-of-range : (k : ℕ) → k < length (arcsOf table) → (SoundArc (arcAt (arcsOf table) k) → ⊥) → Applies table q size 9
   no-route : ((ks : List ℕ) → RouteOf table q ks → ⊥) → Applies table q size 10
-  main-too-long : mostReach < chosen table q .main .metres → Applies table q size 11
-  standby-too-long : mostReach < chosen table q .standby .metres → Applies table q size 11
 
 -- what a call of the planning entry does: it finds `before` in the reply buffer, returns `number` and leaves `now`
 pub record Called (table : List ℕ) (q : Request) (before : List ℕ) (number : ℕ) (now : List ℕ) : Type 0 where

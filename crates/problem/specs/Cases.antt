@@ -1,6 +1,6 @@
 -- 01, Meshes worked by hand: the starred cases, proved as a single table against the definitions; and rows of our own, each there because a wrong definition
 -- would otherwise pass (docs/TESTING.md has the wrong definitions that were tried). Assumes nothing.
-use Prim.Native.Nat.{ℕ, zero, suc, _-_, _^_}
+use Prim.Native.Nat.{ℕ, zero, suc, _*_, _-_, _^_}
 use mathlib.Core.List.{List, [], _∷_, _++_, map}
 use mathlib.Core.Path.{_≡_, refl}
 use native.Mathlib.Omega.{arith}
@@ -8,7 +8,7 @@ use lib.ListN.{length, take, replicate}
 use Rattle.problem.specs.declared.Request.{Request}
 use Rattle.problem.specs.declared.Fault.the-variants.{Sound, Node, EqualEnds, Length, Spare}
 use Rattle.problem.specs.Opened.{opened}
-use Rattle.problem.specs.Table.{nodes, mostShared, mostInTable, Bytes, bytesOf, arcOf, arcsOf, faultOf}
+use Rattle.problem.specs.Table.{nodes, mostArcs, mostShared, mostArcMetres, mostReach, mostInTable, Bytes, bytesOf, arcOf, arcsOf, faultOf}
 use Rattle.problem.specs.Routes.{mesh, Way, paths, FreeWay, freeLengths, shortest}
 use Rattle.problem.specs.Reply.{request, Answer, answer, refuse, sharedIn, floorIn, rankedIn, totalIn, sharedRisksIn, mainIn, standbyIn}
 use Rattle.problem.specs.Calls.{WayOf, allowing}
@@ -190,6 +190,10 @@ paths-A = refl
 -- nodes 0 to 31, risks 0 to 63, a table of 128 arcs
 pub limits : nodes ∷ mostShared ∷ mostInTable ∷ [] ≡ 32 ∷ 64 ∷ 128 ∷ []
 limits = refl
+
+-- as many metres as the most arcs of the longest have make the largest reach
+pub longest : mostArcs * mostArcMetres ≡ mostReach
+longest = refl
 
 -- every byte is one
 pub bytes-to-255 : Bytes (0 ∷ 255 ∷ [])

@@ -137,8 +137,7 @@ planned [] allowance = refuse 10
 planned (r ∷ more) allowance =
     let routes : List Route = r ∷ more in
     let p : Pair = best every routes (ranked every routes allowance) in
-    if ltb mostReach (p .main .metres) || ltb mostReach (p .standby .metres) then refuse 11
-    else record { number = verdict every routes allowance; reply = replyOf (verdict every routes allowance) (floor routes) (ranked every routes allowance) p }
+    record { number = verdict every routes allowance; reply = replyOf (verdict every routes allowance) (floor routes) (ranked every routes allowance) p }
 
 unfoldable pub answerUnless : ℕ → List ℕ → Request → Answer
 answerUnless zero table q = planned (ranking (meshOf table q)) (q .allowance)

@@ -1,4 +1,4 @@
--- 01, Routes and their ranking: the mesh, ways, routes, all routes, the ranking; the shortest length free of some risks. Assumes nothing.
+-- 01, Routes and their ranking: the mesh, ways, paths, routes, all paths, the ranking; the shortest length free of some risks. Assumes nothing.
 use Prim.Native.Nat.{ℕ, zero, suc, _+_, _≤_, _<_}
 use mathlib.Core.Bool.{Bool, true, false, _&&_}
 use mathlib.Core.List.{List, [], _∷_, _++_, map}
@@ -52,10 +52,14 @@ pub record IsWay (m : Mesh) (ks : List ℕ) : Type 0 where
   pub way : Way (m .arcs) (m .source) (m .terminal) ks
   pub within-reach : metresOf (m .arcs) ks ≤ m .reach
 
--- a route: such a way that meets no node twice
+-- a path from v to a node: a way that meets no node twice, of whatever length
+pub record IsPath (arcs : List Arc) (v to : ℕ) (ks : List ℕ) : Type 0 where
+  pub way : Way arcs v to ks
+  pub no-node-twice : Distinct (nodesFrom arcs v ks)
+
+-- a route of a mesh: a path from source to terminal, no longer than the reach
 pub record IsRoute (m : Mesh) (ks : List ℕ) : Type 0 where
-  pub way : Way (m .arcs) (m .source) (m .terminal) ks
-  pub no-node-twice : Distinct (nodesFrom (m .arcs) (m .source) ks)
+  pub path : IsPath (m .arcs) (m .source) (m .terminal) ks
   pub within-reach : metresOf (m .arcs) ks ≤ m .reach
 
 -- the arc leaves `at` for a node that is not met yet
@@ -76,7 +80,7 @@ unfoldable pub grow : List Arc → ℕ → ℕ → ℕ → ℕ → List (List �
 grow arcs terminal zero met at = elim (eqb at terminal) [ true ↦ [] ∷ [] | false ↦ [] ]
 grow arcs terminal (suc n) met at = elim (eqb at terminal) [ true ↦ [] ∷ [] | false ↦ sprout (grow arcs terminal n) met at 0 arcs ]
 
--- a path: a list of arcs from v to the terminal that meets no node twice, of whatever length; all of them, in order of arc numbers
+-- all paths from v to the terminal, in order of arc numbers
 abbrev pub pathsFrom : List Arc → ℕ → ℕ → List (List ℕ)
 pathsFrom arcs terminal v = grow arcs terminal mostArcs (with 0 v) v
 
@@ -93,7 +97,7 @@ pub record Route : Type 0 where
 unfoldable pub routeOf : List Arc → List ℕ → Route
 routeOf arcs ks = record { arcs = ks; metres = metresOf arcs ks; exposure = exposureOf arcs ks }
 
--- every route from v to the terminal, of whatever length
+-- every path from v to the terminal, with its length and what it is exposed to
 unfoldable pub routesFrom : List Arc → ℕ → ℕ → List Route
 routesFrom arcs terminal v = map (routeOf arcs) (pathsFrom arcs terminal v)
 

@@ -32,7 +32,7 @@ mostShared = riskWidth
 abbrev pub mostArcMetres : ℕ
 mostArcMetres = 2000000
 
--- the largest reach, and what number 11 allows a route of the answer
+-- the largest reach. No route is longer, whatever the reach: mostArcs arcs of mostArcMetres (`no-path-longer` of proofs/Promises.antt)
 abbrev pub mostReach : ℕ
 mostReach = 62000000
 

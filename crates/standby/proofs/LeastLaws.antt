@@ -8,13 +8,12 @@ use native.Mathlib.Omega.{arith}
 use borrow.Author.Tests.{le-leb}
 use Rattle.problem.specs.declared.Arc.{Arc}
 use Rattle.problem.specs.declared.Exposure.{Exposure}
-use Rattle.problem.specs.Table.{lastNode, mostArcs}
+use Rattle.problem.specs.Table.{lastNode}
 use Rattle.problem.specs.Exposures.{toNothing, joined}
 use Rattle.problem.specs.Routes.{Mesh, metresOf, exposureOf, paths}
 use Rattle.problem.proofs.ExposureLaws.{exposed-joined, sharing-mono}
-use Rattle.problem.proofs.RouteLaws.{grow-in, grown-exact, grown-short, unmet-source}
-use Rattle.problem.proofs.RankingLaws.{LowHeads}
-use Rattle.problem.proofs.WayLaws.{part-metres, part-exposure, Held, way-held}
+use Rattle.problem.proofs.PathLaws.{LowHeads, paths-in}
+use Rattle.problem.proofs.WayLaws.{part-metres, part-exposure, way-held}
 use Rattle.keys.proofs.BoundLaws.{standbyKey-mono}
 use Rattle.net.specs.declared.Behind.{Behind}
 use Rattle.net.specs.Search.{visit, start}
@@ -45,12 +44,6 @@ module _ (q : Quest) (b : Behind) where
       go (inr j) f = f j
 
 module _ (m : Mesh) (low : LowHeads (m .arcs)) (node : m .source ≤ lastNode) (main : Exposure) where
-  -- the route that a way holds is a path
-  held-path : {ks : List ℕ} (h : Held (m .arcs) (m .terminal) (m .source) ks) → List·Memᴰ (h .list) (paths m)
-  held-path h =
-      let g = grown-exact (m .arcs) (m .terminal) (m .source) (h .list) .1 (h .way, h .no-node-twice) in
-      grow-in (m .arcs) (m .terminal) mostArcs (omega (arith, grown-short (m .arcs) (m .terminal) low g, unmet-source (m .source) node)) g
-
   pub least-below : (bound : ℕ) {key : ℕ} → leastKey m main bound ≡ key → NoneBelow (quest m main 0) key
   least-below bound {key} e = record { ahead = λ n. record { above = λ ks o l. over ks o } }
     where
@@ -60,6 +53,6 @@ module _ (m : Mesh) (low : LowHeads (m .arcs)) (node : m .source ≤ lastNode) (
           let no-longer = part-metres (m .arcs) (h .part) in
           let short = exposureOf (m .arcs) (h .list) in
           let long = exposureOf (m .arcs) ks in
-          let less = fold-least (quest m main 0) (start m) bound (paths m) (held-path h) (omega (arith, no-longer, o .within-reach)) in
+          let less = fold-least (quest m main 0) (start m) bound (paths m) (paths-in (m .arcs) low node (h .path)) (omega (arith, no-longer, o .within-reach)) in
           let shares = sharing-mono main (joined toNothing short) main (joined toNothing long) (λ r. omega arith) (λ r. simp exposed-joined (omega (arith, part-exposure (m .arcs) (h .part) r))) in
           omega (arith, e, less, standbyKey-mono {m = 0 + metresOf (m .arcs) (h .list)} {m′ = 0 + metresOf (m .arcs) ks} shares (omega (arith, no-longer)))

@@ -1,6 +1,6 @@
 -- `choose::pair_by` meets its contract: the numbers read off the key say which two routes to look for, and those found are the best pair of each step that
 -- has the key (`best-found`). Assumes nothing.
-use Rattle.problem.proofs.ReplyLaws.{sound-heads}
+use Rattle.problem.proofs.PathLaws.{sound-heads}
 use Rattle.net.specs.Net.{arcsIn, meshIn}
 use Rattle.choose.proofs.PairingLaws.{main-in-range, standby-in-range, sure-main, best-found}
 use borrow.Author.Needs.{needs}

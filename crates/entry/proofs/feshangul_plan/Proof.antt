@@ -1,6 +1,5 @@
 -- `entry::feshangul_plan` meets its contract: each end of the code is the same end of the definitions' answer. Assumes nothing.
 use mathlib.Core.Path.{sym, _∙_}
-use mathlib.Core.Bool.{true≢false}
 use lib.ListN.{length}
 use borrow.Author.Needs.{needs}
 use borrow.Author.Tests.{not-true, not-false}
@@ -8,7 +7,7 @@ use Rattle.problem.specs.Reply.{request, Passed}
 use Rattle.problem.specs.Calls.{routesOf}
 use Rattle.problem.proofs.ReplyLaws.{refusal-passed}
 use Rattle.planner.specs.Planner.{PairMade}
-use Rattle.entry.proofs.EntryLaws.{refused, no-route, given, not-too-long}
+use Rattle.entry.proofs.EntryLaws.{refused, no-route, given}
 use Rattle.entry.proofs.feshangul_plan.Statement.{statement}
 use Rattle.entry.proofs.feshangul_plan.Tie as tie
 
@@ -28,22 +27,15 @@ returns c = refused _ (c .before .refusal .ensures) (c .if1 .taken)
 returns-2 : tie.Need-returns-2
 returns-2 c = let planned = c .before .before in no-route (passed (planned .before)) (planned .plan-checked .ensures .none (not-true _ (c .if2 .taken)))
 
--- never taken
-returns-3 : tie.Need-returns-3
-returns-3 c =
-    let asked = c .before in
-    let found = asked .before .before in
-    absurd (true≢false (sym (c .if3 .taken) ∙ asked .is-too-long .ensures ∙ not-too-long (passed (found .before .before .before)) (made found)))
-
 write-requires : tie.Need-write-requires
 write-requires c κs =
-    let found = c .before .before .before .before in
+    let found = c .before .before in
     (passed (found .before .before .before) .room, made found .chosen .main-fit, made found .chosen .standby-fit)
 
-returns-4 : tie.Need-returns-4
-returns-4 c =
+returns-3 : tie.Need-returns-3
+returns-3 c =
     let written = c .before .before .before in
-    let found = written .before .before .before .before .before in
+    let found = written .before .before .before in
     given (passed (found .before .before .before)) (made found) (written .write .ensures)
 
 pub feshangul-plan-spec : {M : Type 1} → statement M
@@ -54,9 +46,7 @@ feshangul-plan-spec =
     returns
     (λ c κs. passed c .checked)
     returns-2
-    (λ c κs. search needs)
-    returns-3
     write-requires
     (λ c. search needs)
     (λ c. search needs)
-    returns-4)
+    returns-3)

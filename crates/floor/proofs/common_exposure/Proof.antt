@@ -6,7 +6,7 @@ use native.Mathlib.Omega.{arith}
 use borrow.Author.Needs.{needs}
 use Rattle.problem.specs.Table.{mostShared}
 use Rattle.problem.specs.Reply.{meshOf}
-use Rattle.problem.proofs.ReplyLaws.{sound-heads}
+use Rattle.problem.proofs.PathLaws.{sound-heads}
 use Rattle.floor.proofs.AskLaws.{narrowed-says, narrowed-sure}
 use Rattle.floor.proofs.CommonLaws.{Left, left-start, left-sure, left-on, left-end}
 use Rattle.floor.proofs.common_exposure.Statement.{statement}
