@@ -73,8 +73,8 @@ pub fn ranking_within(patience: usize, arcs: &[Arc], request: &Request) -> Optio
     Some(growth.routes)
 }
 
-/// Holds sound arcs to what 02 says in T-10: whatever the reach, no path has more than 31 arcs or passes 62,000,000 m.
-/// So no number is there for a route that is too long.
+/// Holds sound arcs to what lets number 11 go (docs/REQUESTS.md, T-10): whatever the reach, no path has more than 31 arcs
+/// or passes 62,000,000 m. So no number is there for a route that is too long.
 fn hold_no_path_longer(arcs: &[Arc], request: &Request) {
     let endless = Request { reach: u32::MAX, ..*request };
     let paths = ranking_within(usize::MAX, arcs, &endless).expect("endless patience");

@@ -9,7 +9,7 @@ use lib.Seq.{drop-cons}
 use Rattle.problem.specs.Printed.{text, digits, fields}
 use Rattle.octets.specs.Puts.{Puts}
 use Rattle.octets.proofs.PutLaws.{puts-then, puts-length}
-use Rattle.print.proofs.DigitLaws.{digits-length}
+use Rattle.problem.proofs.DigitLaws.{digits-length}
 
 -- a space and the digits
 pub field-length : (k x : ℕ) → x < 10 ^ suc k → length (text " " ++ digits 10 x) ≤ suc (suc k)

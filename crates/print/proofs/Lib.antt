@@ -1,4 +1,3 @@
-pub mod DigitLaws
 pub mod PartLaws
 pub mod FieldLaws
 pub mod LineLaws

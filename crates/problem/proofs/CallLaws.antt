@@ -19,7 +19,7 @@ use Rattle.problem.proofs.PathLaws.{sound-heads}
 use Rattle.problem.proofs.RankingLaws.{ranking-in, ranking-out}
 use Rattle.problem.proofs.CandidateLaws.{every-some}
 use Rattle.problem.proofs.ReplyLaws.{answered, Outcome, outcome, passed-refusal, ranked-step}
-use Rattle.problem.proofs.RefusalLaws.{NoneBelow, Told, refusal-told, Later, passed-later, passed-below}
+use Rattle.problem.proofs.RefusalLaws.{NoneBelow, Told, refusal-told, passed-ten, passed-below}
 
 -- ---- the verdict
 
@@ -139,10 +139,7 @@ module _ (table : List ℕ) (q : Request) (size : ℕ) where
 
   -- whatever is answered is refused by none
   pub answered-none : answer table q size .number < 2 → {i : ℕ} → Applies table q size i → ⊥
-  answered-none h a = let w = low-number table q size h in go w (passed-later table q size (w .passed) a)
-    where
-      go : WithPair table q size → {i : ℕ} → Later table q size i → ⊥
-      go w (Later.no-route f) = some-listed table q (w .some) f
+  answered-none h a = let w = low-number table q size h in some-listed table q (w .some) (passed-ten table q size (w .passed) a .1)
 
   -- each number exactly where its own test holds and none of a smaller number
   pub numbered : (n : ℕ) → 2 ≤ n → (answer table q size .number ≡ n) ↔ (Applies table q size n × NoneBelow table q size n)

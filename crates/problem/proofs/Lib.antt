@@ -13,6 +13,7 @@ pub mod ReplyLaws
 pub mod RefusalLaws
 pub mod CallLaws
 pub mod SaidLaws
+pub mod DigitLaws
 pub mod PrintedLaws
 pub mod Promises
 pub mod CallPromises

@@ -58,5 +58,5 @@ module _ (arcs : List Arc) (sound : allSound arcs ≡ true) where
   path-range p = omega (arith, way-metres (p .way), path-arcs p)
 
 -- the largest reach sets no limit: there every path is a route
-pub largest-reach : (m : Mesh) → allSound (m .arcs) ≡ true → mostReach ≤ m .reach → (ks : List ℕ) → IsRoute m ks ↔ IsPath (m .arcs) (m .source) (m .terminal) ks
-largest-reach m sound far ks = (λ r. r .path, λ p. record { path = p; within-reach = omega (arith, path-range (m .arcs) sound p) })
+pub largest-reach : (m : Mesh) → allSound (m .arcs) ≡ true → m .reach ≡ mostReach → (ks : List ℕ) → IsRoute m ks ↔ IsPath (m .arcs) (m .source) (m .terminal) ks
+largest-reach m sound e ks = (λ r. r .path, λ p. record { path = p; within-reach = omega (arith, path-range (m .arcs) sound p) })

@@ -2,9 +2,8 @@
 use mathlib.Core.Path.{_≡_, refl, sym, ap, _∙_}
 use mathlib.Core.Bool.{Bool, true, false, _||_, not, or-true}
 use mathlib.Core.Logic.{_⊎_, inl, inr, _↔_}
-use mathlib.Core.List.{List, [], _∷_, _++_}
-use Prim.Native.Nat.{ℕ, zero, suc, _+_, _*_, _-_, _/_, _^_, _≤_, _<_}
-use native.Mathlib.Nat.{pow-suc}
+use mathlib.Core.List.{List, [], _∷_, _++_, append-cancel-left, append-cancel-right}
+use Prim.Native.Nat.{ℕ, zero, suc, _+_, _^_, _≤_, _<_}
 use native.Mathlib.Omega.{arith}
 use lib.Dec.{eqb, ltb}
 use lib.ListN.{length, getD, drop}
@@ -14,6 +13,7 @@ use Rattle.problem.specs.Table.{replySize, numberAt}
 use Rattle.problem.specs.Opened.{opened}
 use Rattle.problem.specs.Reply.{Answer, answer, verdictIn}
 use Rattle.problem.specs.Printed.{text, digits, fields, lines, printed, requestOf, faulty, Unreadable, output}
+use Rattle.problem.proofs.DigitLaws.{digits-same}
 use Rattle.problem.proofs.CallLaws.{number-range}
 
 -- ---- the test
@@ -60,37 +60,17 @@ faulty-exactly input = (λ e. to (or-cases (ltb (length input) 16 || not (eqb (n
 
 -- ---- the text
 
--- the number that decimal digits say, read on from n; what is no digit says 0
-readOn : ℕ → List ℕ → ℕ
-readOn n [] = n
-readOn n (c ∷ l) = readOn (10 * n + (c - 48)) l
-
-read-append : (n : ℕ) (l r : List ℕ) → readOn n (l ++ r) ≡ readOn (readOn n l) r
-unfolding readOn
-read-append n [] r = refl
-read-append n (c ∷ l) r = read-append (10 * n + (c - 48)) l r
-
--- a number is read back from its digits
-digits-read : (n x : ℕ) → x < 10 ^ n → readOn 0 (digits n x) ≡ x
-unfolding digits readOn
-digits-read zero x h = omega arith
-digits-read (suc n) x h = go (ltb x 10) refl (digits-read n (x / 10) (omega (arith, rw pow-suc at h)))
-  where
-    go : (s : Bool) → ltb x 10 ≡ s → readOn 0 (digits n (x / 10)) ≡ x / 10 → readOn 0 (digits (suc n) x) ≡ x
-    go true e ih = rw (e, digits) (omega arith)
-    go false e ih = rw (e, digits, read-append 0 (digits n (x / 10)), ih) (omega arith)
-
 -- the text of a refusal
 abbrev refusedText : ℕ → List ℕ
 refusedText n = text "refused" ++ fields (n ∷ [])
 
--- says its number: behind the word and a space stand its digits
-refused-read : (n : ℕ) → n < 10 ^ 10 → readOn 0 (drop 8 (refusedText n)) ≡ 10 * n
-unfolding fields text readOn
-refused-read n h = rw (read-append 0 (digits 10 n), digits-read 10 n h) (omega arith)
-
+-- is that of no other number: what stands before and behind the digits is the same
 refused-same : {m n : ℕ} → m < 10 ^ 10 → n < 10 ^ 10 → refusedText m ≡ refusedText n → m ≡ n
-refused-same {m} {n} h b e = omega (arith, refused-read m h, refused-read n b, ap (λ (l : List ℕ). readOn 0 (drop 8 l)) e)
+unfolding fields
+refused-same {m} {n} h b e =
+    let behind = append-cancel-left (text "refused") (fields (m ∷ [])) (fields (n ∷ [])) e in
+    let between = append-cancel-right (text " " ++ digits 10 m) (text " " ++ digits 10 n) (text "\n") behind in
+    digits-same 10 h b (append-cancel-left (text " ") (digits 10 m) (digits 10 n) between)
 
 -- a reply's text begins with another letter
 not-lines : (reply : List ℕ) (n : ℕ) → lines reply ≡ refusedText n → ⊥

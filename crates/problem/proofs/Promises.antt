@@ -195,16 +195,12 @@ no-path-longer arcs sound v to ks = PathLaws.path-range arcs sound
 -- so no route of a reply is longer
 pub reply-within : (table : List ℕ) (q : Request) (size : ℕ) → number table q size < 2
     → (mainMetresIn (reply table q size) ≤ mostReach) × (standbyMetresIn (reply table q size) ≤ mostReach)
-reply-within table q size h =
-    let sound = low-number table q size h .passed .checked .sound in
-    let said = reply-metres table q size h in
-    let routed = reply-routes table q size h in
-    (omega (arith, said .0, PathLaws.path-range (arcsOf table) sound (routed .0 .path)), omega (arith, said .1, PathLaws.path-range (arcsOf table) sound (routed .1 .path)))
+reply-within table q size h = Said.said-within (low-number table q size h)
 
 -- and a reach of 62,000,000 metres sets no limit: the routes are all such lists from source to terminal
 pub largest-reach : (table : List ℕ) (q : Request) → allSound (arcsOf table) ≡ true → q .reach ≡ mostReach
     → (ks : List ℕ) → RouteOf table q ks ↔ IsPath (arcsOf table) (q .source) (q .terminal) ks
-largest-reach table q sound e = PathLaws.largest-reach (meshOf table q) sound (omega arith)
+largest-reach table q = PathLaws.largest-reach (meshOf table q)
 
 -- number 11 has ended: no call returns it
 pub never-eleven : (table : List ℕ) (q : Request) (size : ℕ) → number table q size ≡ 11 → ⊥

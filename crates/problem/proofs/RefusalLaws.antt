@@ -101,25 +101,19 @@ module _ (table : List ℕ) (q : Request) (size : ℕ) where
       not-allowed t (Applies.allowance-none h) = eqb-false _ _ (neither (eqb (q .allowance) 0) (ltb mostAllowance (q .allowance)) t .0) h
       not-allowed t (Applies.allowance-too-large h) = omega (arith, ltb-false mostAllowance (q .allowance) (neither (eqb (q .allowance) 0) (ltb mostAllowance (q .allowance)) t .1))
 
-  -- what can still hold where the checks have passed
-  pub data Later : ℕ → Type 0 where
-    no-route : ((ks : List ℕ) → RouteOf table q ks → ⊥) → Later 10
-
-  pub passed-later : Passed table q size → {i : ℕ} → Applies table q size i → Later i
-  passed-later p (Applies.table-too-long h) = absurd (omega (arith, p .checked .few-bytes))
-  passed-later p (Applies.table-torn h) = absurd (h (p .checked .whole-arcs))
-  passed-later p (Applies.buffer-too-small h) = absurd (omega (arith, p .room))
-  passed-later p (Applies.source-too-high h) = absurd (omega (arith, p .checked .source-node))
-  passed-later p (Applies.terminal-too-high h) = absurd (omega (arith, p .checked .terminal-node))
-  passed-later p (Applies.ends-equal h) = absurd (p .checked .ends-differ h)
-  passed-later p (Applies.reach-too-far h) = absurd (omega (arith, p .checked .reach-range))
-  passed-later p (Applies.allowance-none h) = absurd (omega (arith, p .checked .some-allowance))
-  passed-later p (Applies.allowance-too-large h) = absurd (omega (arith, p .checked .allowance-range))
-  passed-later p (Applies.arc-out-of-range k b h) = absurd (h (sound-at (arcsOf table) (p .checked .sound) k b))
-  passed-later p (Applies.no-route h) = Later.no-route h
+  -- where the checks have passed, the one test that can still hold is that of 10
+  pub passed-ten : Passed table q size → {i : ℕ} → Applies table q size i → (i ≡ 10) × ((ks : List ℕ) → RouteOf table q ks → ⊥)
+  passed-ten p (Applies.table-too-long h) = absurd (omega (arith, p .checked .few-bytes))
+  passed-ten p (Applies.table-torn h) = absurd (h (p .checked .whole-arcs))
+  passed-ten p (Applies.buffer-too-small h) = absurd (omega (arith, p .room))
+  passed-ten p (Applies.source-too-high h) = absurd (omega (arith, p .checked .source-node))
+  passed-ten p (Applies.terminal-too-high h) = absurd (omega (arith, p .checked .terminal-node))
+  passed-ten p (Applies.ends-equal h) = absurd (p .checked .ends-differ h)
+  passed-ten p (Applies.reach-too-far h) = absurd (omega (arith, p .checked .reach-range))
+  passed-ten p (Applies.allowance-none h) = absurd (omega (arith, p .checked .some-allowance))
+  passed-ten p (Applies.allowance-too-large h) = absurd (omega (arith, p .checked .allowance-range))
+  passed-ten p (Applies.arc-out-of-range k b h) = absurd (h (sound-at (arcsOf table) (p .checked .sound) k b))
+  passed-ten p (Applies.no-route h) = (refl, h)
 
   pub passed-below : Passed table q size → NoneBelow 10
-  passed-below p i l a = go (passed-later p a) l
-    where
-      go : {i : ℕ} → Later i → i < 10 → ⊥
-      go (Later.no-route h) l = omega arith
+  passed-below p i l a = omega (arith, passed-ten p a .0)

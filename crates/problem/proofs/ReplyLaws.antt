@@ -1,7 +1,7 @@
 -- Calls: the checks as facts, the three ways a call can end, and the fields of a reply read back from its bytes. Assumes nothing.
 use mathlib.Core.Path.{_≡_, refl, sym, ap, _∙_}
 use mathlib.Core.Bool.{Bool, true, false, _||_, not}
-use mathlib.Core.List.{List, [], _∷_, List·Memᴰ}
+use mathlib.Core.List.{List, [], _∷_}
 use Prim.Native.Nat.{ℕ, zero, suc, _-_, _/_, _%_, _^_, _≤_, _<_}
 use native.Mathlib.Omega.{arith}
 use lib.Dec.{eqb, ltb}
@@ -12,14 +12,12 @@ use Rattle.laws.specs.Choosing.{if_then_else_}
 use Rattle.laws.proofs.BoolLaws.{neither}
 use Rattle.problem.specs.declared.Request.{Request}
 use Rattle.problem.specs.Table.{lastNode, mostArcs, mostReach, mostAllowance, mostTableBytes, replySize, bytesOf, arcsOf, arcsNumber, allSound}
-use Rattle.problem.specs.Routes.{Route, routeOf}
+use Rattle.problem.specs.Routes.{Route}
 use Rattle.problem.specs.Pairs.{Step, Pair, sharedRisks, sharedCount, floor, every, best, ranked, verdict}
-use Rattle.problem.specs.Reply.{meshOf, Answer, refuse, placesOf, replyOf, verdictIn, sharedIn, floorIn, rankedIn, mainMetresIn, standbyMetresIn, sharedRisksIn, mainIn, standbyIn, firstNumber, sizeChecks, requestChecks, arcChecks, refusal, Checked, Passed, planned, answerUnless, answer}
+use Rattle.problem.specs.Reply.{Answer, refuse, placesOf, replyOf, verdictIn, sharedIn, floorIn, rankedIn, mainMetresIn, standbyMetresIn, sharedRisksIn, mainIn, standbyIn, firstNumber, sizeChecks, requestChecks, arcChecks, refusal, Passed, planned, answerUnless, answer}
 use Rattle.problem.specs.Calls.{routesOf}
 use Rattle.problem.proofs.ByteLaws.{field-at}
 use Rattle.problem.proofs.TableLaws.{number-sound, number-nine}
-use Rattle.problem.proofs.PathLaws.{path-range}
-use Rattle.problem.proofs.RankingLaws.{ranking-out}
 use Rattle.problem.proofs.SettleLaws.{least-settled-step}
 
 -- ---- the checks
@@ -131,13 +129,6 @@ pub data Outcome (table : List ℕ) (q : Request) (size : ℕ) : Type 0 where
 pub ranked-step : (routes : List Route) (allowance : ℕ) → 0 < length routes → 0 < allowance → Step routes (ranked every routes allowance)
 unfolding ranked
 ranked-step routes allowance h a = let s = least-settled-step every routes h in record { from-one = omega (arith, s .from-one); to-N = omega (arith, s .to-N) }
-
--- no route of a call is longer than 62,000,000 metres, whatever the reach
-pub route-range : {table : List ℕ} {q : Request} → Checked table q → {r : Route} → List·Memᴰ r (routesOf table q) → r .metres ≤ mostReach
-unfolding routeOf
-route-range {table} {q} p m =
-    let o = ranking-out (meshOf table q) m in
-    omega (arith, path-range (arcsOf table) (p .sound) (o .route .path), ap (λ (r : Route). r .metres) (o .is))
 
 planned-none : (routes : List Route) (allowance : ℕ) → length routes ≡ 0 → (routes ≡ []) × (planned routes allowance ≡ refuse 10)
 unfolding planned

@@ -12,21 +12,21 @@ use Rattle.laws.proofs.ListLaws.{take-more, take-mem, take-inside}
 use Rattle.laws.proofs.SortLaws.{Strict}
 use Rattle.problem.specs.declared.Arc.{Arc}
 use Rattle.problem.specs.declared.Request.{Request}
-use Rattle.problem.specs.Table.{mostArcs, riskWidth, mostAllowance, replySize, Bytes, arcsOf}
+use Rattle.problem.specs.Table.{mostArcs, riskWidth, mostReach, mostAllowance, replySize, Bytes, arcsOf}
 use Rattle.problem.specs.Routes.{Route, metresOf, routeOf, precedes}
 use Rattle.problem.specs.Pairs.{Pair, pair, sharedRisks, sharedCount, total, judged, NoWorse, noRoute, ofRank, floor, every, best, settled, leastSettled, ranked, verdict}
 use Rattle.problem.specs.Reply.{meshOf, Answer, replyOf, answer, verdictIn, sharedIn, floorIn, rankedIn, mainMetresIn, standbyMetresIn, totalIn, sharedRisksIn, mainIn, standbyIn, Passed}
 use Rattle.problem.specs.Calls.{routesOf, RouteOf, WayOf, pairMadeOf, pairSaid, allowing}
 use Rattle.problem.proofs.ExposureLaws.{common-risks-below}
 use Rattle.problem.proofs.TableLaws.{risks-below}
-use Rattle.problem.proofs.PathLaws.{sound-heads}
+use Rattle.problem.proofs.PathLaws.{sound-heads, path-range}
 use Rattle.problem.proofs.RankingLaws.{Listed, ranking-out, ranking-strict, route-short}
 use Rattle.problem.proofs.PairLaws.{judged-no-worse}
 use Rattle.problem.proofs.CandidateLaws.{best-in, best-main, best-least, every-even}
 use Rattle.problem.proofs.SettleLaws.{ByLength, settled-cases, settled-by, least-settled, least-settled-inside, main-not-after, settled-no-better}
 use Rattle.problem.proofs.WayLaws.{part-shared, part-total, way-route}
 use Rattle.problem.proofs.WindowLaws.{judged-same, J-le, best-allowed}
-use Rattle.problem.proofs.ReplyLaws.{chosen, route-range, reply-verdict, reply-shared, reply-floor, reply-ranked, reply-main-metres, reply-standby-metres, reply-shared-risks, reply-main, reply-standby, reply-length}
+use Rattle.problem.proofs.ReplyLaws.{chosen, reply-verdict, reply-shared, reply-floor, reply-ranked, reply-main-metres, reply-standby-metres, reply-shared-risks, reply-main, reply-standby, reply-length}
 use Rattle.problem.proofs.CallLaws.{WithPair, Verdict, verdict-cases, verdict-settled, verdict-stopped, verdict-small, some-route, pair-step, some-pair}
 
 -- ---- shared count and total, compared
@@ -79,6 +79,13 @@ module _ {table : List ℕ} {q : Request} {size : ℕ} (w : WithPair table q siz
   listed-short m =
       route-short (meshOf table q) (sound-heads arcs (w .passed .checked .sound)) (w .passed .checked .source-node) (listed-route m .0)
 
+  -- and no longer than 62,000,000 metres, whatever the reach
+  listed-range : {r : Route} → List·Memᴰ r routes → r .metres ≤ mostReach
+  unfolding routeOf
+  listed-range m =
+      let l = listed-route m in
+      omega (arith, path-range arcs (w .passed .checked .sound) (l .0 .path), ap (λ (s : Route). s .metres) (l .1))
+
   -- ---- the fields
 
   abbrev written : List ℕ
@@ -104,10 +111,13 @@ module _ {table : List ℕ} {q : Request} {size : ℕ} (w : WithPair table q siz
   ranked-in = ap rankedIn reply-is ∙ reply-ranked _ _ _ (chosen table q) (omega (arith, w .passed .checked .allowance-range))
 
   main-metres-in : mainMetresIn reply ≡ chosen table q .main .metres
-  main-metres-in = ap mainMetresIn reply-is ∙ reply-main-metres _ _ _ (chosen table q) (omega (arith, route-range (w .passed .checked) main-listed))
+  main-metres-in = ap mainMetresIn reply-is ∙ reply-main-metres _ _ _ (chosen table q) (omega (arith, listed-range main-listed))
 
   standby-metres-in : standbyMetresIn reply ≡ chosen table q .standby .metres
-  standby-metres-in = ap standbyMetresIn reply-is ∙ reply-standby-metres _ _ _ (chosen table q) (omega (arith, route-range (w .passed .checked) standby-listed))
+  standby-metres-in = ap standbyMetresIn reply-is ∙ reply-standby-metres _ _ _ (chosen table q) (omega (arith, listed-range standby-listed))
+
+  pub said-within : (mainMetresIn reply ≤ mostReach) × (standbyMetresIn reply ≤ mostReach)
+  said-within = (omega (arith, main-metres-in, listed-range main-listed), omega (arith, standby-metres-in, listed-range standby-listed))
 
   total-in : totalIn reply ≡ total (chosen table q)
   unfolding total

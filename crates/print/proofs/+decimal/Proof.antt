@@ -7,7 +7,7 @@ use borrow.Fn.Kinds.{In}
 use borrow.Fn.PlainCycle.{Measures, is, falls, and}
 use Rattle.octets.proofs.PutLaws.{puts-then}
 use Rattle.octets.proofs.put.Reads as put-reads
-use Rattle.print.proofs.DigitLaws.{digits-one, digits-last, digits-length}
+use Rattle.problem.proofs.DigitLaws.{digits-one, digits-last, digits-length}
 use Rattle.print.proofs.decimal.Reads as decimal
 use Rattle.print.proofs.decimal.Kinds as decimal-kinds
 use Rattle.print.proofs.+decimal.Lts-decimal as decimal-lts

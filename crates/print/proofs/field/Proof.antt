@@ -4,7 +4,7 @@ use native.Mathlib.Omega.{arith}
 use Rattle.problem.specs.Printed.{text}
 use Rattle.octets.proofs.PutLaws.{puts-then}
 use borrow.Author.Needs.{needs}
-use Rattle.print.proofs.DigitLaws.{digits-length}
+use Rattle.problem.proofs.DigitLaws.{digits-length}
 use Rattle.print.proofs.field.Statement.{statement}
 use Rattle.print.proofs.field.Tie as tie
 
