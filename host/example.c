@@ -1,5 +1,6 @@
 /* A C host in small: writes a span table (mesh A of the rules), asks for a pair from node 0 to node 3, and prints
- * it in words. Build it with the release: cc -std=c99 -I release host/example.c release/libfeshangul.a */
+ * it in words; then asks once more with an arc that is too long, and prints the refusal. Build it with the release:
+ * cc -std=c99 -I release host/example.c release/libfeshangul.a */
 #include "feshangul.h"
 
 #include <stdio.h>
@@ -48,10 +49,45 @@ static void print_routes(const uint8_t *table, const uint8_t *reply)
     printf("; %lu metres\n", (unsigned long)feshangul_standby_metres(reply));
 }
 
+static void print_refusal(uint32_t number)
+{
+    unsigned long arc = feshangul_faulty_arc(number);
+
+    switch (feshangul_reason(number)) {
+    case FESHANGUL_ARC_NODE_RANGE:
+        printf("refused: arc %lu has an end over node %u\n", arc, FESHANGUL_NODE_MAX);
+        break;
+    case FESHANGUL_ARC_ENDS_EQUAL:
+        printf("refused: arc %lu ends where it begins\n", arc);
+        break;
+    case FESHANGUL_ARC_METRES_RANGE:
+        printf("refused: arc %lu is longer than %u metres\n", arc, FESHANGUL_ARC_METRES_MAX);
+        break;
+    case FESHANGUL_ARC_SPARE_USED:
+        printf("refused: arc %lu has bytes 2 and 3 other than zero\n", arc);
+        break;
+    default:
+        printf("refused %lu; feshangul.h says what to do\n", (unsigned long)number);
+    }
+}
+
+static void plan_and_print(const uint8_t *table, size_t table_len)
+{
+    uint8_t reply[FESHANGUL_REPLY_BYTES];
+    uint32_t number = feshangul_plan(table, table_len, reply, sizeof reply, SOURCE, TERMINAL, REACH, ALLOWANCE);
+
+    if (number != FESHANGUL_SETTLED && number != FESHANGUL_STOPPED) {
+        print_refusal(number);
+        return;
+    }
+    print_verdict(reply);
+    print_shared(reply);
+    print_routes(table, reply);
+}
+
 int main(void)
 {
     uint8_t table[ARCS * FESHANGUL_ARC_BYTES];
-    uint8_t reply[FESHANGUL_REPLY_BYTES];
 
     put_arc(table, 0, 0, 1, 1000, RISK(0));
     put_arc(table, 1, 1, 3, 4000, RISK(1));
@@ -59,14 +95,9 @@ int main(void)
     put_arc(table, 3, 2, 3, 1000, RISK(3));
     put_arc(table, 4, 1, 2, 1000, RISK(4));
 
-    uint32_t number = feshangul_plan(table, sizeof table, reply, sizeof reply, SOURCE, TERMINAL, REACH,
-                                     ALLOWANCE);
-    if (number != FESHANGUL_SETTLED && number != FESHANGUL_STOPPED) {
-        printf("refused %lu; feshangul.h says what to do\n", (unsigned long)number);
-        return 1;
-    }
-    print_verdict(reply);
-    print_shared(reply);
-    print_routes(table, reply);
+    plan_and_print(table, sizeof table);
+
+    put_arc(table, 2, 0, 2, FESHANGUL_ARC_METRES_MAX + 1, RISK(2));
+    plan_and_print(table, sizeof table);
     return 0;
 }

@@ -1,5 +1,5 @@
-/* Tests what feshangul.h itself computes: the writers, the readers, and that its version says the same twice. Prints
- * nothing and returns 0 where all is well; else it names the line that does not hold. */
+/* Tests what feshangul.h itself computes: the writers, the readers, a number taken apart, and that its version says
+ * the same twice. Prints nothing and returns 0 where all is well; else it names the line that does not hold. */
 #include "feshangul.h"
 
 #include <stdio.h>
@@ -31,6 +31,16 @@ static void test_arcs(void)
     HOLD(record[FESHANGUL_ARC_TAIL] == 255 && record[FESHANGUL_ARC_HEAD] == 255);
 }
 
+static void test_numbers(void)
+{
+    HOLD(feshangul_reason(FESHANGUL_STOPPED) == FESHANGUL_STOPPED);
+    HOLD(feshangul_reason(FESHANGUL_NO_ROUTE) == FESHANGUL_NO_ROUTE);
+    HOLD(feshangul_reason(20) == FESHANGUL_ARC_NODE_RANGE && feshangul_faulty_arc(20) == 0);
+    HOLD(feshangul_reason(277) == FESHANGUL_ARC_ENDS_EQUAL && feshangul_faulty_arc(277) == 1);
+    HOLD(feshangul_reason(5398) == FESHANGUL_ARC_METRES_RANGE && feshangul_faulty_arc(5398) == 21);
+    HOLD(feshangul_reason(32535) == FESHANGUL_ARC_SPARE_USED && feshangul_faulty_arc(32535) == FESHANGUL_ARCS_MAX - 1);
+}
+
 static void test_reply(void)
 {
     uint8_t reply[FESHANGUL_REPLY_BYTES];
@@ -57,6 +67,7 @@ static void test_version(void)
 int main(void)
 {
     test_arcs();
+    test_numbers();
     test_reply();
     test_version();
     return 0;

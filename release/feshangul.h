@@ -21,8 +21,8 @@
 extern "C" {
 #endif
 
-#define FESHANGUL_VERSION "0.2.0"
-#define FESHANGUL_VERSION_NUMBER 200u    /* 10,000 times the first part, and 100 times the second, and the third */
+#define FESHANGUL_VERSION "0.3.0"
+#define FESHANGUL_VERSION_NUMBER 300u    /* 10,000 times the first part, and 100 times the second, and the third */
 
 /* ---- Sizes and limits ------------------------------------------------------------------------------------- */
 
@@ -67,9 +67,18 @@ uint32_t feshangul_plan(const uint8_t *table, size_t table_len, uint8_t *reply, 
 /* ---- Numbers returned, and what to do on each --------------------------------------------------------------
  *
  * With 0 and 1 a reply is written. All others are refusals: nothing was planned and the reply buffer is as it was.
- * Of several faults the first check in the order of docs/FORMATS.md that applies is told (numbers 2 to 10 in order
- * today), so mend it and ask again. Take a number that is not listed here as a refusal. 11 has ended: it was for a
- * route of over 62,000,000 m, and there is none. It is given to nothing else. */
+ * A fault of an arc comes as its number, 20 to 23, plus 256 times the number of the arc, so take every number apart
+ * with these two. Of several faults the first is told, in the order in which they stand here, so mend it and ask again:
+ * the lowest faulty arc is named, with the first of its faults. Take a reason that is not listed here as a refusal.
+ *
+ * 9 and 11 have ended and are given to nothing else: 9 was for any fault of any arc, and 11 for a route of over
+ * 62,000,000 m, and there is none. */
+
+/* Why: one of the numbers below. */
+static inline uint32_t feshangul_reason(uint32_t number) { return number % 256u; }
+
+/* Which arc, with a reason of 20 to 23: its record begins FESHANGUL_ARC_BYTES times this from the table's beginning. */
+static inline uint32_t feshangul_faulty_arc(uint32_t number) { return number / 256u; }
 
 /* Settled. Use the pair: it is the first of all pairs of routes, and a larger allowance gives the same reply. */
 #define FESHANGUL_SETTLED 0u
@@ -99,9 +108,19 @@ uint32_t feshangul_plan(const uint8_t *table, size_t table_len, uint8_t *reply, 
 /* The allowance is none, or too large. Give FESHANGUL_ALLOWANCE_MAX where all mains are meant. */
 #define FESHANGUL_ALLOWANCE_RANGE 8u
 
-/* Some arc has a field outside its range. Hold every record against the ranges in docs/FORMATS.md, and have the
- * table mended. */
-#define FESHANGUL_ARC_FAULT 9u
+/* The arc's tail or head is no node, 0 to FESHANGUL_NODE_MAX. Give its buildings numbers in that range; 255 is what
+ * feshangul_put_arc writes for a node that does not fit its byte. */
+#define FESHANGUL_ARC_NODE_RANGE 20u
+
+/* The arc's tail equals its head. Mend one of them, or leave the arc out; that shifts the numbers of those behind it. */
+#define FESHANGUL_ARC_ENDS_EQUAL 21u
+
+/* The arc is longer than FESHANGUL_ARC_METRES_MAX. See whether its length was given in metres; an arc that is truly
+ * longer cannot be planned with, unless as several in a row. */
+#define FESHANGUL_ARC_METRES_RANGE 22u
+
+/* The arc's bytes 2 and 3 are not zero. Write the record with feshangul_put_arc. */
+#define FESHANGUL_ARC_SPARE_USED 23u
 
 /* No route leads from source to terminal within the reach. Tell the customer, or ask with a larger reach. */
 #define FESHANGUL_NO_ROUTE 10u

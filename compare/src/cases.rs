@@ -78,15 +78,43 @@ fn limits() -> Vec<Worked> {
         cut("2,049 bytes of table", 2_049, "refused 2"),
         cut("2,047 bytes of table", 2_047, "refused 3"),
         worked("length 2,000,000", &[arc(0, 1, METRES_MAX)], far, "settled; total 4000000"),
-        worked("length 2,000,001", &[arc(0, 1, METRES_MAX + 1)], far, "refused 9"),
+        worked("length 2,000,001", &[arc(0, 1, METRES_MAX + 1)], far, "refused 22"),
         over_all("the longest route that there can be", REACH_MAX, "settled; total 124000000"),
         over_all("the longest route, a metre past the reach", REACH_MAX - 1, "refused 10"),
         worked("node 31", &[arc(0, 31, 5)], request(0, 31, 5, 1), "settled; total 10"),
-        worked("node 32 in an arc", &[arc(0, 1, 5), arc(0, 32, 5)], far, "refused 9"),
+        worked("node 32 in an arc", &[arc(0, 1, 5), arc(0, 32, 5)], far, "refused 276"),
         asked("source 32", 32, 1, "refused 5"),
         asked("terminal 32", 0, 32, "refused 5"),
         asked("source = terminal = 32", 32, 32, "refused 5"),
         asked("source = terminal", 7, 7, "refused 6"),
+    ]
+}
+
+/// Arc 21 of a table of 22 is a metre too long.
+fn arc_21_too_long() -> Case {
+    let mut arcs = vec![Arc { tail: 0, head: 1, spare: 0, metres: 5, risks: 1 }; 22];
+    arcs[21].metres = METRES_MAX + 1;
+    Case { table: table_bytes(&arcs), reply_len: REPLY_BYTES, request: request(0, 1, 10_000, 1_000) }
+}
+
+/// Which arc is named, and with which of its faults.
+fn faulty_arcs() -> Vec<Worked> {
+    let plain = request(0, 1, 10_000, 1_000);
+    let arc = |tail, head, metres, spare| Arc { tail, head, spare, metres, risks: 1 };
+    let one = |name, faulty, said| worked(name, &[arc(0, 1, 5, 0), faulty], plain, said);
+    let mut last = vec![arc(0, 1, 5, 0); 128];
+    last[127].spare = 256;
+    let of_three = [arc(0, 1, 5, 0), arc(0, 1, 5, 1), arc(32, 1, 5, 0), arc(7, 7, 5, 0)];
+    vec![
+        one("an arc with every fault", arc(32, 32, METRES_MAX + 1, 1), "refused 276"),
+        one("an arc with every fault but a node's", arc(31, 31, METRES_MAX + 1, 1), "refused 277"),
+        one("an arc too long, with its spare bytes used", arc(0, 31, METRES_MAX + 1, 1), "refused 278"),
+        one("an arc with its spare bytes used", arc(0, 31, METRES_MAX, 1), "refused 279"),
+        worked("the lowest of three faulty arcs, with the last of the faults", &of_three, plain, "refused 279"),
+        worked("the first of two faulty arcs", &[arc(0, 1, u32::MAX, 0), arc(255, 0, 5, 0)], plain, "refused 22"),
+        worked("the last of 128 arcs", &last, plain, "refused 32535"),
+        worked("a fault of the request before one of an arc", &last, request(0, 1, 10_000, 0), "refused 8"),
+        Worked { name: "arc 21 a metre too long", case: arc_21_too_long(), said: "refused 5398" },
     ]
 }
 
@@ -152,6 +180,7 @@ fn short_cuts() -> Vec<Worked> {
 pub fn all() -> Vec<Worked> {
     let mut rows = meshes();
     rows.extend(limits());
+    rows.extend(faulty_arcs());
     rows.extend(further());
     rows.extend(short_cuts());
     rows
@@ -196,6 +225,11 @@ fn program_refusals(a1: &[u8]) -> Vec<WorkedText> {
         changed("request byte 12", 12, "refused 12\n"),
         changed("request byte 15", 15, "refused 12\n"),
         long,
+        WorkedText {
+            name: "arc 21 a metre too long",
+            input: arc_21_too_long().input().expect("small nodes"),
+            text: "refused 5398\n".to_string(),
+        },
     ]
 }
 

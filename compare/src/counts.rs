@@ -5,13 +5,14 @@ use crate::listing::{faults, Answer, Plan};
 use crate::mesh::{Case, ARC_BYTES};
 use crate::trade::{Shape, SHAPES};
 
-/// The numbers of refusals; 11 has ended.
-const REFUSALS: [usize; 10] = [2, 3, 4, 5, 6, 7, 8, 9, 10, 12];
+/// The numbers of refusals, in order; 9 and 11 have ended, and 20 to 23 come with an arc.
+const REFUSALS: [usize; 13] = [2, 3, 4, 5, 6, 7, 8, 20, 21, 22, 23, 10, 12];
 
 #[derive(Default)]
 pub struct Counts {
-    numbers: [usize; 13],
+    numbers: [usize; 24],
     several_faults: usize,
+    named: Named,
     /// Reply buffers of 0, 95, 96, 97 and more bytes.
     buffers: [usize; 5],
     full_tables: usize,
@@ -32,16 +33,43 @@ pub struct Counts {
     planned_shapes: [usize; SHAPES.len()],
 }
 
+/// The arcs that refusals named.
+#[derive(Default)]
+struct Named {
+    first: usize,
+    last: usize,
+    highest: u32,
+    /// Other arcs had faults too, and the named one had several.
+    among_faulty: usize,
+    with_several: usize,
+}
+
+impl Named {
+    fn add(&mut self, case: &Case, number: u32) {
+        let arc = number / 256;
+        let arcs = (case.table.len() / ARC_BYTES) as u32;
+        self.first += usize::from(arc == 0);
+        self.last += usize::from(arc + 1 == arcs);
+        self.highest = self.highest.max(arc);
+        let faults = faults(case);
+        self.among_faulty += usize::from(faults.iter().any(|fault| fault / 256 != arc));
+        self.with_several += usize::from(faults.iter().filter(|&fault| fault / 256 == arc).count() > 1);
+    }
+}
+
 impl Counts {
     /// Counts a case, or an input that is none (number 12), and the trade's shape that it was drawn in, if any.
     pub fn add(&mut self, case: Option<&Case>, shape: Option<Shape>, answer: &Answer) {
-        self.numbers[answer.number() as usize] += 1;
+        self.numbers[answer.number() as usize % 256] += 1;
         if let Some(shape) = shape {
             self.drawn_shapes += 1;
             self.planned_shapes[shape as usize] += usize::from(matches!(answer, Answer::Planned(..)));
         }
         if let Some(case) = case {
             self.add_case(case);
+            if answer.number() >= 20 {
+                self.named.add(case, answer.number());
+            }
             if let Answer::Planned(plan, reply) = answer {
                 self.add_plan(case, plan);
                 self.sharing_over_floor += usize::from(reply.shared > reply.floor);
@@ -76,6 +104,11 @@ impl Counts {
     pub fn print(&self) {
         let refused: Vec<String> = REFUSALS.map(|number| format!("{number}: {}", self.numbers[number])).to_vec();
         println!("  settled {}, stopped {}; refused {}", self.numbers[0], self.numbers[1], refused.join(", "));
+        let Named { first, last, highest, among_faulty, with_several } = self.named;
+        println!(
+            "  faulty arcs named: arc 0 {first}, the table's last {last}, at most arc {highest}; among other faulty ones \
+             {among_faulty}, with several faults {with_several}"
+        );
         println!("  several faults at once {}; tables of 128 arcs {}", self.several_faults, self.full_tables);
         let [none, short, exact, one_more, more] = self.buffers;
         // The program has one buffer of its own.

@@ -255,15 +255,21 @@ impl Answer {
     }
 }
 
-fn arc_faulty(arc: &Arc) -> bool {
-    let node_over = u32::from(arc.tail) > NODE_MAX || u32::from(arc.head) > NODE_MAX;
-    node_over || arc.tail == arc.head || arc.spare != 0 || arc.metres > METRES_MAX
+/// The numbers of faults that an arc can have, in order, and whether it has each.
+fn arc_checks(arc: &Arc) -> [(u32, bool); 4] {
+    [
+        (20, u32::from(arc.tail) > NODE_MAX || u32::from(arc.head) > NODE_MAX),
+        (21, arc.tail == arc.head),
+        (22, arc.metres > METRES_MAX),
+        (23, arc.spare != 0),
+    ]
 }
 
-/// Which of the numbers 2 to 9 apply, in order.
+/// Which numbers apply before any route is looked for, in order: those of the call, then those of each arc, which say
+/// the arc as well.
 pub fn faults(case: &Case) -> Vec<u32> {
     let r = &case.request;
-    let checks = [
+    let of_call = [
         (2, case.table.len() > TABLE_BYTES_MAX),
         (3, case.table.len() % ARC_BYTES != 0),
         (4, case.reply_len < REPLY_BYTES),
@@ -271,8 +277,11 @@ pub fn faults(case: &Case) -> Vec<u32> {
         (6, r.source == r.terminal),
         (7, r.reach > REACH_MAX),
         (8, r.allowance == 0 || r.allowance > ALLOWANCE_MAX),
-        (9, arcs_of(&case.table).iter().any(arc_faulty)),
     ];
+    let mut checks = of_call.to_vec();
+    for (place, arc) in arcs_of(&case.table).iter().enumerate() {
+        checks.extend(arc_checks(arc).map(|(number, holds)| (number + 256 * place as u32, holds)));
+    }
     checks.iter().filter(|check| check.1).map(|check| check.0).collect()
 }
 

@@ -392,6 +392,13 @@ fn damage_request(dice: &mut Dice, request: &mut Request) {
 }
 
 fn damage(dice: &mut Dice, case: &mut Case) {
+    // Arcs alone: which of several is named, and with which of its faults?
+    if dice.percent(25) {
+        for _ in 0..dice.between(1, 5) {
+            damage_arc(dice, case);
+        }
+        return;
+    }
     for _ in 0..dice.between(1, 4) {
         match dice.below(8) {
             0 => case.reply_len = dice.pick(&[0, 0, 1, 31, 64, 95, 95]),

@@ -10,7 +10,7 @@
 `plan` returns a Pair, or a Refusal with its number and words. The standard library alone is needed.
 """
 
-__version__ = "0.2.0"
+__version__ = "0.3.0"
 
 from pathlib import Path
 

@@ -83,7 +83,8 @@ def plan(mesh, request):
         return Refusal(mesh, request, 12, rules.REFUSALS[12])  # the request record of `routes`; a call has no such bytes
     asked = (request.source, request.terminal, request.reach, request.allowance)
     if not all(0 <= number < 2**32 for number in asked):  # a call would carry another number
-        raise InputFault("each number of a request is 0 to 4,294,967,295")
+        ranges = f"nodes are {rules.NODE_RANGE}, the reach {rules.REACH_RANGE}, the allowance {rules.ALLOWANCE_RANGE}"
+        raise InputFault(f"the request has a number that no call can carry: {ranges}")
     number, data = planner().plan(records.put_table(mesh.arcs), *asked)
     if number not in VERDICTS:
         return _refusal(mesh, request, number)
@@ -91,13 +92,17 @@ def plan(mesh, request):
 
 
 def _refusal(mesh, request, number):
-    words = rules.REFUSALS.get(number, "a number that this version does not know")
-    if number == rules.ARC_FAULT:
-        for arc, record in enumerate(mesh.arcs):
-            fault = rules.arc_fault(record)
-            if fault:
-                return Refusal(mesh, request, number, f"{_place(arc, record)}: {fault}", arc)
-    return Refusal(mesh, request, number, words)
+    if number % rules.REASONS in rules.ARC_FAULTS:
+        return _refusal_for_arc(mesh, request, number)
+    return Refusal(mesh, request, number, rules.REFUSALS.get(number, "a number that this version does not know"))
+
+
+def _refusal_for_arc(mesh, request, number):
+    """Says the fault of the arc that the number names, and holds it against the mesh on the way."""
+    arc, reason = number // rules.REASONS, number % rules.REASONS
+    found = rules.arc_fault(mesh.arcs[arc]) if arc < len(mesh.arcs) else None
+    _hold(found is not None and found[0] == reason, f"number {number}, where arc {arc} has no fault {reason}")
+    return Refusal(mesh, request, number, f"{_place(arc, mesh.arcs[arc])}: {found[1]}", arc)
 
 
 def _place(arc, record):

@@ -100,7 +100,7 @@ def _chosen(options, mesh):
 
 def _end(mesh, option, word):
     if not mesh.named:
-        return _option(option, word, lambda line: line.number("a node", text.BYTE, text.NODE_RANGE))
+        return _option(option, word, lambda line: line.number("a node", text.BYTE, rules.NODE_RANGE))
     sites = [site.name for site in mesh.sites]
     if word not in sites:
         raise InputFault(f"{option}: expected a site of the mesh, found {quoted(word)}{text.hint(word, sites)}")
@@ -118,7 +118,7 @@ def _option(option, word, read):
 
 
 def _reach(word):
-    return _option("--reach", word, lambda line: line.metres("the reach", rules.REACH_MAX, text.REACH_RANGE))
+    return _option("--reach", word, lambda line: line.metres("the reach", rules.REACH_MAX, rules.REACH_RANGE))
 
 
 def _allowance(word):

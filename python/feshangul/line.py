@@ -49,12 +49,12 @@ class Line:
         if not self.take(mark):
             raise self.expected(f'"{mark}"')
 
-    def number(self, what, most, true_range):
+    def number(self, what, most, true_range=None):
         """A whole number of at most `most`, as wide as its field; the message tells the range in which it makes sense."""
         found = _DIGITS.match(self.text, self.at)
         number = _whole(found[0], most) if found else None
         if number is None:
-            raise self.expected(f"{what} from {true_range}")
+            raise self.expected(f"{what} from {true_range}" if true_range else what)
         self._step(found.end())
         return number
 

@@ -42,7 +42,7 @@ def _fault(mesh):
         if holds:
             return rules.REFUSALS[number]
     faults = ((number, rules.arc_fault(arc)) for number, arc in enumerate(mesh.arcs))
-    return next((f"arc {number}: {fault}" for number, fault in faults if fault), None)
+    return next((f"arc {number}: {fault[1]}" for number, fault in faults if fault), None)
 
 
 def _paired(arcs):

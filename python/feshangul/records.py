@@ -5,6 +5,7 @@ from __future__ import annotations
 import struct
 from dataclasses import dataclass
 
+from . import rules
 from .fault import InputFault
 from .mesh import Arc, Mesh, Request
 
@@ -25,7 +26,15 @@ def risks_of(risk_field):
 
 
 def put_table(arcs):
-    return b"".join(_ARC.pack(a.tail, a.head, a.spare, a.metres, risks_field(a.risks)) for a in arcs)
+    return b"".join(_put_arc(number, arc) for number, arc in enumerate(arcs))
+
+
+def _put_arc(number, a):
+    try:
+        return _ARC.pack(a.tail, a.head, a.spare, a.metres, risks_field(a.risks))
+    except struct.error:
+        ranges = f"nodes are {rules.NODE_RANGE}, lengths {rules.METRES_RANGE}, risks {rules.RISK_RANGE}"
+        raise InputFault(f"arc {number} has a number that no record can hold: {ranges}") from None
 
 
 def put_request(r):

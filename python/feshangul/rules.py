@@ -7,36 +7,45 @@ ARC_METRES_MAX = 2_000_000
 REACH_MAX = 62_000_000  # 31 arcs of 2,000,000 metres: no route is longer
 ALLOWANCE_MAX = 1_000_000
 
+# What makes sense in each field, as messages say it; a record holds more.
+NODE_RANGE = f"0 to {NODES - 1}"
+RISK_RANGE = f"0 to {RISKS - 1}"
+METRES_RANGE = f"0 to {ARC_METRES_MAX:,} m"
+REACH_RANGE = f"0 to {REACH_MAX:,} m"
+ALLOWANCE_RANGE = f"1 to {ALLOWANCE_MAX:,}"
+
 SETTLED = 0
 STOPPED = 1
-ARC_FAULT = 9
 NO_ROUTE = 10
+
+# The faults of an arc; returned as one of these and REASONS times the arc's number.
+ARC_FAULTS = ARC_NODE, ARC_ENDS, ARC_LENGTH, ARC_SPARE = 20, 21, 22, 23
+REASONS = 256
 
 REFUSALS = {
     2: f"the table has more than {ARCS} arcs",
     3: "the table is no whole number of arcs",
     4: "the reply buffer is under 96 bytes",
-    5: f"source or terminal is no node: nodes are 0 to {NODES - 1}",
+    5: f"source or terminal is no node: nodes are {NODE_RANGE}",
     6: "source and terminal are the same node",
     7: f"the reach is over {REACH_MAX:,} m",
-    8: f"the allowance is not 1 to {ALLOWANCE_MAX:,}",
-    ARC_FAULT: "an arc has a field outside its range",
+    8: f"the allowance is not {ALLOWANCE_RANGE}",
     NO_ROUTE: "no route from source to terminal is within reach",
     12: "the spare bytes of the request are not zero",
 }
 
 
 def arc_fault(arc):
-    """What is wrong with an arc, the first of node, ends, length and spare bytes, in words; None where it is sound."""
+    """The first fault of an arc, by its number and in words; None where it is sound."""
     for end, node in (("tail", arc.tail), ("head", arc.head)):
         if node >= NODES:
-            return f"{end} node {node} is over {NODES - 1}"
+            return ARC_NODE, f"{end} node {node} is over {NODES - 1}"
     if arc.tail == arc.head:
-        return f"both ends are node {arc.tail}"
+        return ARC_ENDS, f"both ends are node {arc.tail}"
     if arc.metres > ARC_METRES_MAX:
-        return f"length {arc.metres:,} m is over {ARC_METRES_MAX:,}"
+        return ARC_LENGTH, f"length {arc.metres:,} m is over {ARC_METRES_MAX:,}"
     if arc.spare:
-        return f"the spare bytes are {arc.spare} and not zero"
+        return ARC_SPARE, f"the spare bytes are {arc.spare} and not zero"
     return None
 
 

@@ -7,12 +7,6 @@ from .fault import InputFault, quoted
 from .line import Line
 from .mesh import Arc, Mesh, Request, Risk, Site
 
-NODE_RANGE = f"0 to {rules.NODES - 1}"
-RISK_RANGE = f"0 to {rules.RISKS - 1}"
-METRES_RANGE = f"0 to {rules.ARC_METRES_MAX:,} m"
-REACH_RANGE = f"0 to {rules.REACH_MAX:,} m"
-ALLOWANCE_RANGE = f"1 to {rules.ALLOWANCE_MAX:,}"
-
 # The widths of the fields in the records: the numbered form takes what the planner refuses, as long as a record holds it.
 BYTE = 2**8 - 1
 TWO_BYTES = 2**16 - 1
@@ -61,18 +55,18 @@ class _Numbered:
 def _read_request(line):
     if not line.take("from"):
         raise line.expected('"from", or one of ' + ", ".join(f'"{k}"' for k in KINDS))
-    source = line.number("the source node", BYTE, NODE_RANGE)
+    source = line.number("the source node", BYTE, rules.NODE_RANGE)
     line.need("to")
-    terminal = line.number("the terminal node", BYTE, NODE_RANGE)
+    terminal = line.number("the terminal node", BYTE, rules.NODE_RANGE)
     line.need("reach")
-    reach = line.metres("the reach", FOUR_BYTES, REACH_RANGE)
+    reach = line.metres("the reach", FOUR_BYTES, rules.REACH_RANGE)
     line.need("allowance")
-    allowance = line.number("the allowance", FOUR_BYTES, ALLOWANCE_RANGE)
+    allowance = line.number("the allowance", FOUR_BYTES, rules.ALLOWANCE_RANGE)
     spare = (0, 0)
     if line.take("spare"):
-        low = line.number("spare bytes 2-3", TWO_BYTES, f"0 to {TWO_BYTES}")
+        low = line.number("0 as spare bytes 2-3", TWO_BYTES)
         line.need(",")
-        spare = (low, line.number("spare bytes 12-15", FOUR_BYTES, f"0 to {FOUR_BYTES}"))
+        spare = (low, line.number("0 as spare bytes 12-15", FOUR_BYTES))
     line.end()
     return Request(source, terminal, reach, allowance, spare)
 
@@ -81,19 +75,19 @@ def _read_arc(line, arc, number):
     # An arc's number is its position. It is written all the same, so that a lost or doubled line is noticed.
     wrong = line.expected(f"arc number {arc}")
     try:
-        if line.number("", FOUR_BYTES, "") != arc:
+        if line.number("", FOUR_BYTES) != arc:
             raise wrong
     except InputFault:
         raise wrong from None
     line.need(":")
-    tail = line.number("the tail node", BYTE, NODE_RANGE)
+    tail = line.number("the tail node", BYTE, rules.NODE_RANGE)
     line.need(",")
-    head = line.number("the head node", BYTE, NODE_RANGE)
+    head = line.number("the head node", BYTE, rules.NODE_RANGE)
     line.need(",")
-    metres = line.metres("the length", FOUR_BYTES, METRES_RANGE)
+    metres = line.metres("the length", FOUR_BYTES, rules.METRES_RANGE)
     line.need(",")
     risks = _read_risk_numbers(line)
-    spare = line.number("spare bytes 2-3", TWO_BYTES, f"0 to {TWO_BYTES}") if line.take("spare") else 0
+    spare = line.number("0 as spare bytes 2-3", TWO_BYTES) if line.take("spare") else 0
     line.end()
     return Arc(tail, head, metres, risks, spare, line=number)
 
@@ -104,7 +98,7 @@ def _read_risk_numbers(line):
         return frozenset()
     risks = []
     while True:
-        risks.append(line.number("a risk", rules.RISKS - 1, RISK_RANGE))
+        risks.append(line.number("a risk", rules.RISKS - 1, rules.RISK_RANGE))
         _hold_once(risks, str(risks[-1]))
         if line.take("}"):
             return frozenset(risks)
@@ -170,7 +164,7 @@ class _Named:
         tail, head = self._site(line), self._site(line)
         if tail == head:
             raise InputFault("expected two different sites")
-        metres = line.metres("the length", rules.ARC_METRES_MAX, METRES_RANGE)
+        metres = line.metres("the length", rules.ARC_METRES_MAX, rules.METRES_RANGE)
         risks = self._read_risks(line)
         if len(self.arcs) + directions > rules.ARCS:
             raise InputFault(f"expected at most {rules.ARCS} arcs (a span is two), found arc {rules.ARCS + 1}")
@@ -195,7 +189,7 @@ class _Named:
             raise InputFault("expected two different sites")
         given = {}
         if line.take("reach"):
-            given["reach"] = line.metres("the reach", rules.REACH_MAX, REACH_RANGE)
+            given["reach"] = line.metres("the reach", rules.REACH_MAX, rules.REACH_RANGE)
         if line.take("allowance"):
             given["allowance"] = read_allowance(line)
         self.requests.append(Request(source, terminal, **given))
@@ -206,9 +200,9 @@ class _Named:
 
 def read_allowance(line):
     """An allowance that the planner takes."""
-    found = line.number("the allowance", rules.ALLOWANCE_MAX, ALLOWANCE_RANGE)
+    found = line.number("the allowance", rules.ALLOWANCE_MAX, rules.ALLOWANCE_RANGE)
     if found == 0:
-        raise InputFault(f"expected the allowance from {ALLOWANCE_RANGE}, found 0")
+        raise InputFault(f"expected the allowance from {rules.ALLOWANCE_RANGE}, found 0")
     return found
 
 

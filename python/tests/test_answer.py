@@ -164,37 +164,50 @@ class Refusals(unittest.TestCase):
             self.assert_refused(4, "the reply buffer is under 96 bytes", A, A1)
 
     def test_a_faulty_arc_is_told_with_its_number_and_line(self):
-        for words, arc in (
-            ("tail node 32 is over 31", "32,1,5,{}"),
-            ("head node 255 is over 31", "0,255,5,{}"),
-            ("tail node 40 is over 31", "40,40,4294967295,{} spare 1"),
-            ("both ends are node 7", "7,7,2000001,{}"),
-            ("length 2,000,001 m is over 2,000,000", "0,1,2000001,{} spare 3"),
-            ("length 4,294,967,295 m is over 2,000,000", "0,1,4294967295,{}"),
-            ("the spare bytes are 256 and not zero", "0,1,5,{} spare 256"),
+        for reason, words, arc in (
+            (20, "tail node 32 is over 31", "32,1,5,{}"),
+            (20, "head node 255 is over 31", "0,255,5,{}"),
+            (20, "tail node 40 is over 31", "40,40,4294967295,{} spare 1"),
+            (21, "both ends are node 7", "7,7,2000001,{}"),
+            (22, "length 2,000,001 m is over 2,000,000", "0,1,2000001,{} spare 3"),
+            (22, "length 4,294,967,295 m is over 2,000,000", "0,1,4294967295,{}"),
+            (23, "the spare bytes are 256 and not zero", "0,1,5,{} spare 256"),
         ):
             with self.subTest(arc):
                 mesh = text.read(f"from 0 to 1 reach 10 allowance 1\n\n0: 0,1,5,{{}}\n# faulty:\n1: {arc}\n", "mesh")
-                self.assert_refused(9, f"arc 1, line 5: {words}", mesh, mesh.requests[0])
+                self.assert_refused(reason + 256, f"arc 1, line 5: {words}", mesh, mesh.requests[0])
                 self.assertEqual(answer.plan(mesh, mesh.requests[0]).arc, 1)
 
     def test_the_lowest_faulty_arc_of_several_is_told(self):
         arcs = "0: 0,1,5,{}\n1: 0,1,5,{} spare 9\n2: 40,1,5,{}\n3: 1,1,5,{}\n"
         mesh = text.read("from 0 to 1 reach 10 allowance 1\n" + arcs, "mesh")
-        self.assert_refused(9, "arc 1, line 3: the spare bytes are 9 and not zero", mesh, mesh.requests[0])
+        self.assert_refused(279, "arc 1, line 3: the spare bytes are 9 and not zero", mesh, mesh.requests[0])
+
+    def test_the_arc_and_its_line_are_told_by_their_own_numbers(self):
+        comments = "#\n" * 7  # so that arc 21 stands on line 30
+        arcs = "".join(f"{n}: 0,1,{5 if n < 21 else 2_000_001},{{}}\n" for n in range(22))
+        mesh = text.read("from 0 to 1 reach 10 allowance 1\n" + comments + arcs, "mesh")
+        self.assert_refused(5398, "arc 21, line 30: length 2,000,001 m is over 2,000,000", mesh, mesh.requests[0])
+
+    def test_the_last_arc_of_the_largest_table_is_told(self):
+        mesh = Mesh((Arc(0, 1, 5, frozenset()),) * 127 + (Arc(0, 1, 5, frozenset(), 1),))
+        self.assert_refused(32_535, "arc 127: the spare bytes are 1 and not zero", mesh, A1)
 
     def test_a_faulty_arc_of_bytes_is_told_without_a_line(self):
         mesh = Mesh((Arc(3, 3, 5, frozenset()),))
-        self.assert_refused(9, "arc 0: both ends are node 3", mesh, Request(0, 1))
+        self.assert_refused(21, "arc 0: both ends are node 3", mesh, Request(0, 1))
 
     def test_a_number_that_is_not_known_is_a_refusal(self):
-        for number in (11, 13, 4_294_967_295):  # 11 has ended
+        for number in (9, 11, 13, 24, 266, 4_294_967_295):  # 9 and 11 have ended; 266 is 10 with an arc
             with self.subTest(number), planner_that_replies(number):
                 self.assert_refused(number, "a number that this version does not know", A, A1)
 
-    def test_a_fault_of_an_arc_that_is_not_found_is_told_in_general(self):
-        with planner_that_replies(9):
-            self.assert_refused(9, "an arc has a field outside its range", A, A1)
+    def test_a_number_for_an_arc_without_that_fault_is_noticed(self):
+        mesh = Mesh((Arc(0, 1, 2_000_001, frozenset()), Arc(0, 1, 5, frozenset())))
+        for number, arc in ((21, 0), (23, 0), (278, 1), (534, 2), (2**32 - 234, 2**24 - 1)):
+            with self.subTest(number), planner_that_replies(number), self.assertRaises(LibraryFault) as raised:
+                answer.plan(mesh, A1)
+            self.assertIn(f"number {number}, where arc {arc} has no fault {number % 256}", str(raised.exception))
 
 
 class Library(unittest.TestCase):
@@ -259,11 +272,30 @@ class Package(unittest.TestCase):
         pair = feshangul.plan(mesh, feshangul.Request(0, 1))
         self.assertEqual((pair.main.arcs, pair.standby.arcs, pair.shared_risks), ((0,), (0,), {63}))
 
-    def test_a_number_that_no_call_can_carry_is_told_and_not_cut(self):
+    def test_a_number_that_no_call_can_carry_is_told_with_the_true_ranges_and_not_cut(self):
         for change in ({"source": 2**32}, {"terminal": -1}, {"reach": 2**32 + 10_000}, {"allowance": 2**64}):
             with self.subTest(change), self.assertRaises(feshangul.InputFault) as raised:
                 feshangul.plan(A, replace(A1, **change))
-            self.assertEqual(str(raised.exception), "each number of a request is 0 to 4,294,967,295")
+            self.assertEqual(
+                str(raised.exception),
+                "the request has a number that no call can carry: nodes are 0 to 31, the reach 0 to 62,000,000 m, "
+                "the allowance 1 to 1,000,000",
+            )
+
+    def test_a_number_that_no_record_can_hold_is_told_with_the_true_ranges_and_not_cut(self):
+        for faulty in (
+            Arc(256, 1, 5, frozenset()),
+            Arc(0, -1, 5, frozenset()),
+            Arc(0, 1, 2**32, frozenset()),
+            Arc(0, 1, 5, frozenset({64})),
+            Arc(0, 1, 5, frozenset(), 2**16),
+        ):
+            with self.subTest(faulty), self.assertRaises(feshangul.InputFault) as raised:
+                feshangul.plan(feshangul.Mesh((*A.arcs, faulty)), A1)
+            self.assertEqual(
+                str(raised.exception),
+                "arc 5 has a number that no record can hold: nodes are 0 to 31, lengths 0 to 2,000,000 m, risks 0 to 63",
+            )
 
     def test_an_input_fault_is_a_fault(self):
         with self.assertRaises(feshangul.Fault) as raised:

@@ -165,7 +165,7 @@ class HelpAndVersion(CommandTest):
                     self.assertIn(word, help_text)
 
     def test_version_is_that_of_the_header(self):
-        self.assertEqual(run("--version"), Ran(0, b"feshangul 0.2.0\n", b""))
+        self.assertEqual(run("--version"), Ran(0, b"feshangul 0.3.0\n", b""))
         header = (RELEASE / "feshangul.h").read_text(encoding="utf-8")
         self.assertIn(f'#define FESHANGUL_VERSION "{feshangul.__version__}"\n', header)
 
@@ -380,7 +380,7 @@ class Json(CommandTest):
         faulty = self.file("from 0 to 1 reach 10 allowance 1\n0: 0,1,5,{}\n\n1: 7,7,5,{}\n")
         asked = {"from": node(0), "to": node(1), "reach": 10, "allowance": 1}
         words = "arc 1, line 4: both ends are node 7"
-        self.assertEqual(self.fields(faulty), [{"verdict": "refused", "number": 9, **asked, "words": words, "arc": 1, "line": 4}])
+        self.assertEqual(self.fields(faulty), [{"verdict": "refused", "number": 277, **asked, "words": words, "arc": 1, "line": 4}])
         asked = {"from": node(0), "to": node(3), "reach": 2999, "allowance": 1000}
         words = "no route from source to terminal is within reach"
         self.assertEqual(

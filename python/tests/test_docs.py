@@ -28,6 +28,11 @@ class Documents(unittest.TestCase):
         mesh, *_ = blocks("docs/MESHES.md", "from 0 to 3")
         self.assertEqual(call("plan", "-", stdin=mesh.encode()).output.decode().split("\n")[0], "settled 3 3 1")
 
+    def test_the_faulty_mesh_by_number_in_meshes_prints_what_stands_below_it(self):
+        _, faulty, printed, *_ = blocks("docs/MESHES.md", "from 0 to 3")
+        ran = call("plan", "-", stdin=faulty.encode())
+        self.assertEqual((ran.status, ran.output.decode()), (3, printed))
+
     def test_the_first_command_of_the_readme_prints_what_stands_below_it(self):
         printed, *_ = blocks("README.md", "settled 0 0 4")
         output = call("plan", EXAMPLES / "europe.txt").output.decode()

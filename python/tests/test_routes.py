@@ -8,7 +8,7 @@ import subprocess
 import unittest
 from concurrent.futures import ThreadPoolExecutor
 
-from feshangul import answer, records, sheet, text
+from feshangul import answer, records, rules, sheet, text
 
 from .shared import EXAMPLES, damaged, example, small_mesh
 
@@ -26,12 +26,12 @@ def printed(mesh):
 @unittest.skipUnless(ROUTES, "ROUTES holds no command that runs the program `routes`")
 class Routes(unittest.TestCase):
     def assert_all_printed(self, meshes):
-        """Holds each mesh against the program, and returns the numbers of the answers that came."""
+        """Holds each mesh against the program, and returns the numbers of the answers that came, without their arcs."""
         numbers = set()
         with ThreadPoolExecutor(2) as pool:
             for place, (mesh, expected) in enumerate(zip(meshes, pool.map(printed, meshes))):
                 found = answer.plan(mesh, mesh.requests[0])
-                numbers.add(found.number)
+                numbers.add(found.number % rules.REASONS)
                 with self.subTest(place, mesh=text.write(mesh)):
                     self.assertEqual(sheet.lines(found), expected)
         return numbers
@@ -43,7 +43,7 @@ class Routes(unittest.TestCase):
     def test_2000_random_meshes_give_the_lines_that_the_program_prints(self):
         rng = random.Random(20)
         meshes = [small_mesh(rng) if number % 5 else damaged(rng, small_mesh(rng)) for number in range(RANDOM_MESHES)]
-        self.assertEqual(self.assert_all_printed(meshes), {0, 1, 5, 6, 7, 8, 9, 10, 12})
+        self.assertEqual(self.assert_all_printed(meshes), {0, 1, 5, 6, 7, 8, 10, 12, *rules.ARC_FAULTS})
 
 
 if __name__ == "__main__":

@@ -197,7 +197,7 @@ Refused, number 10: no route from source to terminal is within reach.
         self.assert_sheet(
             """\
 From node 0 to node 1, each route within 10 m.
-Refused, number 9: arc 1, line 3: both ends are node 7.
+Refused, number 277: arc 1, line 3: both ends are node 7.
 """,
             "from 0 to 1 reach 10 allowance 1\n0: 0,1,5,{}\n1: 7,7,5,{}\n",
         )

@@ -319,10 +319,10 @@ BY_NUMBER = (
     ('2: expected a risk from 0 to 63, found "}"', REQUEST + "0: 0,1,1000,{0,}\n"),
     ("2: expected each risk once, found 5 again", REQUEST + "0: 0,1,1000,{5,0,5}\n"),
     ('2: expected "," or "}", found the end of the line', REQUEST + "0: 0,1,1000,{0\n"),
-    ('2: expected spare bytes 2-3 from 0 to 65535, found "65536"', REQUEST + "0: 0,1,1000,{0} spare 65536\n"),
+    ('2: expected 0 as spare bytes 2-3, found "65536"', REQUEST + "0: 0,1,1000,{0} spare 65536\n"),
     ('2: expected the end of the line, found "1:"', REQUEST + "0: 0,1,1000,{0} 1: 1,3,4000,{1}\n"),
     ('131: expected arc number 129, found "x"', REQUEST + "".join(f"{n}: 0,1,1000,{{}}\n" for n in range(129)) + "x\n"),
-    ('1: expected spare bytes 12-15 from 0 to 4294967295, found "4294967296"', REQUEST.rstrip() + " spare 0,4294967296\n"),
+    ('1: expected 0 as spare bytes 12-15, found "4294967296"', REQUEST.rstrip() + " spare 0,4294967296\n"),
     (f'1: expected {KINDS}, found "sites"', "sites A\n"),
     ('2: expected arc number 0, found "site"', REQUEST + "site A\n"),
 )

@@ -7,7 +7,7 @@ use problem::MOST_ARC_METRES;
 ghost use mathlib.Core.Path.{_≡_};
 ghost use Prim.Native.Nat.{_+_, _*_, _≤_};
 ghost use lib.ListN.{length};
-ghost use Rattle.problem.specs.Table.{arcOf, arcsOf, faultOf, faultNumber, arcsNumber};
+ghost use Rattle.problem.specs.Table.{mostTableBytes, arcOf, arcsOf, faultOf, arcsNumber};
 ghost use Rattle.problem.specs.Routes.{arcAt};
 
 // The arc that sixteen bytes say.
@@ -56,29 +56,18 @@ pub fn fault(a: Arc) -> Fault
     Fault::Sound
 }
 
-fn number(f: Fault) -> u32
-    ensures { λ r. ⌜ r ≡ faultNumber f ⌝ }
-{
-    match f {
-        Fault::Sound => 0,
-        Fault::Node => 9,
-        Fault::EqualEnds => 9,
-        Fault::Length => 9,
-        Fault::Spare => 9,
-    }
-}
-
-// The number for the first arc of the table that has a fault, or 0.
+// The number for the lowest arc of the table that has a fault: that of its first fault, and 256 times the arc's number. 0 where none has.
 pub fn refusal(table: &[u8]) -> u32
+    requires { ⌜ length (now table) ≤ mostTableBytes ⌝ }
     ensures { λ r. ⌜ r ≡ arcsNumber (arcsOf (now (table .entry))) ⌝ }
 {
     let n = table.len() / ARC_BYTES;
     let mut k: usize = 0;
     while k < n {
         let f = fault(arc_at(table, k));
-        let m = number(f);
+        let m = problem::fault_number(f);
         if m != 0 {
-            return m;
+            return m + 256 * (k as u32);
         }
         k = k + 1;
     }

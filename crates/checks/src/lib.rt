@@ -1,4 +1,4 @@
-// The checks of a call before anything is planned: numbers 2 to 9, in their order (the lists of checks of the problem's specs/Reply.antt).
+// The checks of a call before anything is planned: numbers 2 to 8 and those of a faulty arc, in their order (the lists of checks of the problem's specs/Reply.antt).
 use problem::ARC_BYTES;
 use problem::MOST_ALLOWANCE;
 use problem::MOST_REACH;

@@ -1,9 +1,9 @@
 -- How calls end: the verdict, which number goes with which end, and the order of the checks. Assumes nothing.
 use mathlib.Core.Path.{_≡_, refl, sym, ap, subst}
 use mathlib.Core.Bool.{Bool, true, false}
-use mathlib.Core.Logic.{_↔_}
+use mathlib.Core.Logic.{inl, _↔_}
 use mathlib.Core.List.{List, [], List·Memᴰ, List·Memᴰ·not-nil}
-use Prim.Native.Nat.{ℕ, zero, suc, _≤_, _<_}
+use Prim.Native.Nat.{ℕ, _+_, _*_, _/_, _%_, _≤_, _<_}
 use native.Mathlib.Omega.{arith}
 use lib.Dec.{leb, ltb}
 use lib.ListN.{length}
@@ -13,13 +13,14 @@ use Rattle.problem.specs.declared.Request.{Request}
 use Rattle.problem.specs.Table.{arcsOf}
 use Rattle.problem.specs.Routes.{Route, routeOf}
 use Rattle.problem.specs.Pairs.{noRoute, Step, every, someAt, leastSettled, ranked, verdict}
-use Rattle.problem.specs.Reply.{meshOf, Answer, refusal, Passed, answer}
-use Rattle.problem.specs.Calls.{routesOf, RouteOf, Applies}
+use Rattle.problem.specs.Reply.{meshOf, Answer, Passed, answer}
+use Rattle.problem.specs.Calls.{routesOf, RouteOf, Applies, Told, LowestFault}
+use Rattle.problem.proofs.FaultLaws.{lowest-first}
 use Rattle.problem.proofs.PathLaws.{sound-heads}
 use Rattle.problem.proofs.RankingLaws.{ranking-in, ranking-out}
 use Rattle.problem.proofs.CandidateLaws.{every-some}
 use Rattle.problem.proofs.ReplyLaws.{answered, Outcome, outcome, passed-refusal, ranked-step}
-use Rattle.problem.proofs.RefusalLaws.{NoneBelow, Told, refusal-told, passed-ten, passed-below}
+use Rattle.problem.proofs.RefusalLaws.{NoneBefore, Names, Known, own-turn, told-two, told-own, told-same, told-faulty, told-names, names-lowest, told-known, passed-ten, passed-before}
 
 -- ---- the verdict
 
@@ -65,7 +66,7 @@ pub low-number : (table : List ℕ) (q : Request) (size : ℕ) → answer table 
 low-number table q size h = go (outcome table q size)
   where
     go : Outcome table q size → WithPair table q size
-    go (Outcome.by-check n r low high e) = absurd (omega (arith, number-of e))
+    go (Outcome.by-check n r told e) = absurd (omega (arith, number-of e, told-two table q size told))
     go (Outcome.no-route p none e) = absurd (omega (arith, number-of e))
     go (Outcome.with-pair p some e) = record { passed = p; some = some; is = e }
 
@@ -74,7 +75,7 @@ pub some-route : (table : List ℕ) (q : Request) (size : ℕ) → Passed table 
 some-route table q size passed some = go (outcome table q size)
   where
     go : Outcome table q size → WithPair table q size
-    go (Outcome.by-check n r low high e) = absurd (omega (arith, passed-refusal passed))
+    go (Outcome.by-check n r told e) = absurd (omega (arith, passed-refusal passed, told-two table q size told))
     go (Outcome.no-route p none e) = absurd (omega (arith, ap length none))
     go (Outcome.with-pair p more e) = record { passed = p; some = more; is = e }
 
@@ -91,18 +92,9 @@ pub high-number : (table : List ℕ) (q : Request) (size : ℕ) → 2 ≤ answer
 high-number table q size h = go (outcome table q size)
   where
     go : Outcome table q size → answer table q size .reply ≡ []
-    go (Outcome.by-check n r low high e) = ap (λ (a : Answer). a .reply) e
+    go (Outcome.by-check n r told e) = ap (λ (a : Answer). a .reply) e
     go (Outcome.no-route p none e) = ap (λ (a : Answer). a .reply) e
     go (Outcome.with-pair p some e) = absurd (omega (arith, number-of e, verdict-small (routesOf table q) (q .allowance)))
-
--- no number is past 10
-pub number-range : (table : List ℕ) (q : Request) (size : ℕ) → answer table q size .number ≤ 10
-number-range table q size = go (outcome table q size)
-  where
-    go : Outcome table q size → answer table q size .number ≤ 10
-    go (Outcome.by-check n r low high e) = omega (arith, number-of e)
-    go (Outcome.no-route p none e) = omega (arith, number-of e)
-    go (Outcome.with-pair p some e) = omega (arith, number-of e, verdict-small (routesOf table q) (q .allowance))
 
 -- ---- routes, or none
 
@@ -123,35 +115,59 @@ some-listed table q some f =
 -- ---- the order of the checks
 
 module _ (table : List ℕ) (q : Request) (size : ℕ) where
-  -- whatever is refused is refused by the first test that holds
+  -- whatever is refused is told
   pub refused-told : 2 ≤ answer table q size .number → Told table q size (answer table q size .number)
   refused-told h = go (outcome table q size)
     where
-      told-by : (n : ℕ) → refusal table q size ≡ n → 2 ≤ n → Told table q size n
-      told-by zero e l = absurd (omega arith)
-      told-by (suc n) e l = refusal-told table q size n e
-
       go : Outcome table q size → Told table q size (answer table q size .number)
-      go (Outcome.by-check n r low high e) = subst (Told table q size) (sym (number-of e)) (told-by n r low)
+      go (Outcome.by-check n r told e) = subst (Told table q size) (sym (number-of e)) told
       go (Outcome.no-route p none e) =
-          subst (Told table q size) (sym (number-of e)) (record { applies = Applies.no-route (none-listed p none); none-below = passed-below table q size p })
+          subst (Told table q size) (sym (number-of e)) (told-own table q size 10 (λ e. omega arith) (Applies.no-route (none-listed p none)) (passed-before table q size p))
       go (Outcome.with-pair p some e) = absurd (omega (arith, number-of e, verdict-small (routesOf table q) (q .allowance)))
 
   -- whatever is answered is refused by none
-  pub answered-none : answer table q size .number < 2 → {i : ℕ} → Applies table q size i → ⊥
+  pub answered-none : answer table q size .number < 2 → {t i : ℕ} → Applies table q size t i → ⊥
   answered-none h a = let w = low-number table q size h in some-listed table q (w .some) (passed-ten table q size (w .passed) a .1)
 
-  -- each number exactly where its own test holds and none of a smaller number
-  pub numbered : (n : ℕ) → 2 ≤ n → (answer table q size .number ≡ n) ↔ (Applies table q size n × NoneBelow table q size n)
-  numbered n two = (to, λ a. from a (ltb (answer table q size .number) 2) refl)
+  -- each number exactly where it is told
+  pub numbered : (n : ℕ) → 2 ≤ n → (answer table q size .number ≡ n) ↔ Told table q size n
+  numbered n two = (λ e. subst (Told table q size) e (refused-told (omega arith)), λ told. from told (ltb (answer table q size .number) 2) refl)
     where
-      to : answer table q size .number ≡ n → Applies table q size n × NoneBelow table q size n
-      to e = let t = subst (Told table q size) e (refused-told (omega arith)) in (t .applies, t .none-below)
+      from : Told table q size n → (b : Bool) → ltb (answer table q size .number) 2 ≡ b → answer table q size .number ≡ n
+      from told true l = absurd (answered-none (ltb-true _ _ l) (told .applies))
+      from told false l = told-same table q size (refused-told (ltb-false (answer table q size .number) 2 l)) told
 
-      from : Applies table q size n × NoneBelow table q size n → (b : Bool) → ltb (answer table q size .number) 2 ≡ b → answer table q size .number ≡ n
-      from a true l = absurd (answered-none (ltb-true _ _ l) (a .0))
-      from a false l =
-          let t = refused-told (ltb-false (answer table q size .number) 2 l) in
-          let not-less : answer table q size .number < n → ⊥ = λ b. a .1 _ b (t .applies) in
-          let not-more : n < answer table q size .number → ⊥ = λ b. t .none-below n b (a .0) in
-          omega arith
+  -- that of no route, where no turn before comes to a number
+  pub no-route-exactly : NoneBefore table q size 10 → (answer table q size .number ≡ 10) ↔ NoRoute table q
+  no-route-exactly before =
+      (λ e. told-none (numbered 10 (omega arith) .0 e), λ f. numbered 10 (omega arith) .1 (told-own table q size 10 (λ e. omega arith) (Applies.no-route f) before))
+    where
+      none : {i : ℕ} → Applies table q size 10 i → NoRoute table q
+      none (Applies.no-route f) = f
+
+      told-none : Told table q size 10 → NoRoute table q
+      told-none told = none (subst (λ (t : ℕ). Applies table q size t 10) (own-turn table q size (omega arith) (told .applies)) (told .applies))
+
+  -- ---- the number of an arc
+
+  -- a number past 10 names an arc of the table
+  names : 10 < answer table q size .number → Names table q size (answer table q size .number)
+  names past = told-names table q size past (refused-told (omega arith))
+
+  pub arc-apart : 10 < answer table q size .number → LowestFault (arcsOf table) (answer table q size .number / 256) (answer table q size .number % 256)
+  arc-apart past = names-lowest table q size (names past) (answer table q size .number / 256) (answer table q size .number % 256) (omega arith) (omega arith)
+
+  -- where no turn before that of the arcs comes to a number, which arc it names, and which fault
+  pub arc-named : NoneBefore table q size 9 → (n i : ℕ) → 20 ≤ n → n ≤ 23 → (answer table q size .number ≡ n + 256 * i) ↔ LowestFault (arcsOf table) i n
+  arc-named below n i low high = (
+    λ e. names-lowest table q size (names (omega arith)) i n (omega arith) e,
+    λ l. numbered (n + 256 * i) (omega arith) .1 (subst (Told table q size) (omega (arith, l .first-fault)) (told-faulty table q size below (lowest-first (arcsOf table) (omega arith) l))),
+  )
+
+  -- no number is 9, or past 10 without an arc
+  pub number-known : Known (answer table q size .number)
+  number-known = go (ltb (answer table q size .number) 2) refl
+    where
+      go : (b : Bool) → ltb (answer table q size .number) 2 ≡ b → Known (answer table q size .number)
+      go true e = let low = ltb-true (answer table q size .number) 2 e in inl (omega arith, λ nine. omega arith)
+      go false e = told-known table q size (refused-told (ltb-false (answer table q size .number) 2 e))

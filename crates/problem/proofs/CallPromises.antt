@@ -4,7 +4,7 @@ use mathlib.Core.Path.{_≡_, sym, ap, _∙_}
 use mathlib.Core.Bool.{true, false}
 use mathlib.Core.Logic.{_⊎_, _↔_}
 use mathlib.Core.List.{List, List·Memᴰ}
-use Prim.Native.Nat.{ℕ, _*_, _≤_, _<_}
+use Prim.Native.Nat.{ℕ, _+_, _*_, _/_, _%_, _≤_, _<_}
 use native.Mathlib.Omega.{arith}
 use lib.ListN.{length, take, drop}
 use lib.Seq.{take-at}
@@ -13,7 +13,7 @@ use Rattle.problem.specs.Table.{mostReach, mostAllowance, replySize, Byt
 use Rattle.problem.specs.Routes.{Route, metresOf}
 use Rattle.problem.specs.Pairs.{pair, sharedRisks, sharedCount, total, judged, NoWorse, ofRank, floor}
 use Rattle.problem.specs.Reply.{answer, after, sharedIn, rankedIn, mainMetresIn, standbyMetresIn, totalIn, sharedRisksIn, mainIn, standbyIn}
-use Rattle.problem.specs.Calls.{routesOf, RouteOf, WayOf, pairMadeOf, pairSaid, allowing, Applies, Called}
+use Rattle.problem.specs.Calls.{routesOf, RouteOf, WayOf, pairMadeOf, pairSaid, allowing, Applies, Told, LowestFault, Called}
 use Rattle.problem.proofs.Promises as promised
 
 module _ {table : List ℕ} {q : Request} {before now : List ℕ} {number : ℕ} (c : Called table q before number now) where
@@ -29,12 +29,12 @@ module _ {table : List ℕ} {q : Request} {before now : List ℕ} {number : ℕ}
 
   -- ==== Demand 1
 
-  -- each number is returned exactly where its own test holds and that of no smaller number
-  pub call-in-order : (n : ℕ) → 2 ≤ n → (number ≡ n) ↔ (Applies table q (length before) n × ((i : ℕ) → i < n → Applies table q (length before) i → ⊥))
+  -- each number is returned exactly where its own test holds, none of an earlier turn, and in its own turn none of a smaller number
+  pub call-in-order : (n : ℕ) → 2 ≤ n → (number ≡ n) ↔ Told table q (length before) n
   call-in-order = rw (c .number-is) (promised.checked-in-order table q (length before))
 
   -- a call is answered exactly where no test holds
-  pub call-answered : (number < 2) ↔ ((i : ℕ) → Applies table q (length before) i → ⊥)
+  pub call-answered : (number < 2) ↔ ((t i : ℕ) → Applies table q (length before) t i → ⊥)
   call-answered = rw (c .number-is) (promised.answered-exactly table q (length before))
 
   -- a refusal leaves every byte
@@ -108,6 +108,20 @@ module _ {table : List ℕ} {q : Request} {before now : List ℕ} {number : ℕ}
   -- number 11 has ended: it is returned for no call
   pub call-never-eleven : number ≡ 11 → ⊥
   call-never-eleven e = promised.never-eleven table q (length before) (sym (c .number-is) ∙ e)
+
+  -- ==== Request T-02
+
+  -- once the checks before have passed, the number is n + 256 i exactly where arc i has the fault of number n as its first and every arc below i is sound
+  pub call-names : ((t i : ℕ) → t < 9 → Applies table q (length before) t i → ⊥) → (n i : ℕ) → 20 ≤ n → n ≤ 23 → (number ≡ n + 256 * i) ↔ LowestFault (arcsOf table) i n
+  call-names = rw (c .number-is) (promised.arc-named table q (length before))
+
+  -- any number past 10, taken apart
+  pub call-apart : 10 < number → LowestFault (arcsOf table) (number / 256) (number % 256)
+  call-apart = rw (c .number-is) (promised.arc-apart table q (length before))
+
+  -- number 9 has ended: it is returned for no call
+  pub call-never-nine : number ≡ 9 → ⊥
+  call-never-nine e = promised.never-nine table q (length before) (sym (c .number-is) ∙ e)
 
 -- two calls on the same buffer, the second with a larger permitted allowance
 module _ {table : List ℕ} {q : Request} {b : ℕ} {before now later : List ℕ} {first second : ℕ} (c : Called table q before first now) (d : Called table (allowing q b) before second later)

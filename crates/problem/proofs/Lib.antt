@@ -1,5 +1,7 @@
 pub mod ByteLaws
 pub mod ExposureLaws
+pub mod ToldLaws
+pub mod FaultLaws
 pub mod TableLaws
 pub mod RouteLaws
 pub mod PathLaws
@@ -9,8 +11,8 @@ pub mod PairLaws
 pub mod CandidateLaws
 pub mod SettleLaws
 pub mod WayLaws
-pub mod ReplyLaws
 pub mod RefusalLaws
+pub mod ReplyLaws
 pub mod CallLaws
 pub mod SaidLaws
 pub mod DigitLaws

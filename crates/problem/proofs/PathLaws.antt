@@ -14,7 +14,7 @@ use Rattle.problem.specs.Routes.{Mesh, arcAt, metresOf, Way, IsPath, IsR
 use Rattle.problem.proofs.TableLaws.{sound-at}
 use Rattle.problem.proofs.RouteLaws.{grow-out, grow-in, grown-exact, grown-short, unmet-source}
 
--- every head is one of the 32 nodes, as check 9 has it
+-- every head is one of the 32 nodes, as the check of the arcs has it
 abbrev pub LowHeads : List Arc → Type 0
 LowHeads arcs = (k : ℕ) → k < length arcs → arcAt arcs k .head ≤ lastNode
 

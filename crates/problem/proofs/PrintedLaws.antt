@@ -1,5 +1,5 @@
--- What is printed of a refusal says its number alone; so number 12 is printed just where it is looked for, and 11 nowhere. Assumes nothing.
-use mathlib.Core.Path.{_≡_, refl, sym, ap, _∙_}
+-- What is printed of a refusal says its number alone; so number 12 is printed just where it is looked for, and 9 and 11 nowhere. Assumes nothing.
+use mathlib.Core.Path.{_≡_, refl, sym, ap, _∙_, subst}
 use mathlib.Core.Bool.{Bool, true, false, _||_, not, or-true}
 use mathlib.Core.Logic.{_⊎_, inl, inr, _↔_}
 use mathlib.Core.List.{List, [], _∷_, _++_, append-cancel-left, append-cancel-right}
@@ -14,7 +14,8 @@ use Rattle.problem.specs.Opened.{opened}
 use Rattle.problem.specs.Reply.{Answer, answer, verdictIn}
 use Rattle.problem.specs.Printed.{text, digits, fields, lines, printed, requestOf, faulty, Unreadable, output}
 use Rattle.problem.proofs.DigitLaws.{digits-same}
-use Rattle.problem.proofs.CallLaws.{number-range}
+use Rattle.problem.proofs.RefusalLaws.{Known, unknown}
+use Rattle.problem.proofs.CallLaws.{number-known}
 
 -- ---- the test
 
@@ -98,6 +99,10 @@ at-twelve : (input : List ℕ) → faulty input ≡ true → output input ≡ re
 unfolding output printed
 at-twelve input e = rw e
 
+text-of-nine : refusedText 9 ≡ text "refused 9\n"
+unfolding opened
+text-of-nine = refl
+
 text-of-eleven : refusedText 11 ≡ text "refused 11\n"
 unfolding opened
 text-of-eleven = refl
@@ -106,26 +111,36 @@ text-of-twelve : refusedText 12 ≡ text "refused 12\n"
 unfolding opened
 text-of-twelve = refl
 
--- an answer of the entry, whose numbers end at 10, is printed neither as 11 nor as 12
-entry-not-printed : (input : List ℕ) (n : ℕ) → 10 < n → n < 10 ^ 10 → printed (answer (drop 16 input) (requestOf input) replySize) ≡ refusedText n → ⊥
-entry-not-printed input n l h e =
-    let low = number-range (drop 16 input) (requestOf input) replySize in
-    omega (arith, low, printed-number (answer (drop 16 input) (requestOf input) replySize) n (omega (arith, low)) h e)
+known-short : {n : ℕ} → Known n → n < 10 ^ 10
+known-short (inl h) = omega (arith, h .0)
+known-short (inr h) = omega (arith, h .1)
+
+-- an answer of the entry is printed as refused by a number of the entry
+entry-known : (input : List ℕ) (n : ℕ) → n < 10 ^ 10 → printed (answer (drop 16 input) (requestOf input) replySize) ≡ refusedText n → Known n
+entry-known input n h e =
+    let known = number-known (drop 16 input) (requestOf input) replySize in
+    subst Known (printed-number (answer (drop 16 input) (requestOf input) replySize) n (known-short known) h e) known
 
 pub twelve-exactly : (input : List ℕ) → (output input ≡ text "refused 12\n") ↔ Unreadable input
 twelve-exactly input = (λ e. to e (faulty input) refl, λ u. at-twelve input (faulty-exactly input .1 u) ∙ text-of-twelve)
   where
     to : output input ≡ text "refused 12\n" → (s : Bool) → faulty input ≡ s → Unreadable input
     to e true q = faulty-exactly input .0 q
-    to e false q = absurd (entry-not-printed input 12 (omega arith) (omega arith) (sym (past-twelve input q) ∙ e ∙ sym text-of-twelve))
+    to e false q = absurd (unknown (inr (omega arith)) (entry-known input 12 (omega arith) (sym (past-twelve input q) ∙ e ∙ sym text-of-twelve)))
 
--- number 11 is printed for no input
-pub never-prints-eleven : (input : List ℕ) → output input ≡ text "refused 11\n" → ⊥
-never-prints-eleven input e = go (faulty input) refl
+-- a number that is not the entry's, nor 12, is printed for no input
+not-printed : (n : ℕ) → n < 10 ^ 10 → (Known n → ⊥) → (n ≡ 12 → ⊥) → (input : List ℕ) → output input ≡ refusedText n → ⊥
+not-printed n h unknown other input e = go (faulty input) refl
   where
     go : (s : Bool) → faulty input ≡ s → ⊥
-    go true q = omega (arith, refused-same {m = 12} {n = 11} (omega arith) (omega arith) (sym (at-twelve input q) ∙ e ∙ sym text-of-eleven))
-    go false q = entry-not-printed input 11 (omega arith) (omega arith) (sym (past-twelve input q) ∙ e ∙ sym text-of-eleven)
+    go true q = other (sym (refused-same {m = 12} {n = n} (omega arith) h (sym (at-twelve input q) ∙ e)))
+    go false q = unknown (entry-known input n h (sym (past-twelve input q) ∙ e))
+
+pub never-prints-nine : (input : List ℕ) → output input ≡ text "refused 9\n" → ⊥
+never-prints-nine input e = not-printed 9 (omega arith) (unknown (inl refl)) (λ z. omega arith) input (e ∙ sym text-of-nine)
+
+pub never-prints-eleven : (input : List ℕ) → output input ≡ text "refused 11\n" → ⊥
+never-prints-eleven input e = not-printed 11 (omega arith) (unknown (inr (omega arith))) (λ z. omega arith) input (e ∙ sym text-of-eleven)
 
 -- otherwise what the entry answers is printed
 pub otherwise-answered : (input : List ℕ) → (Unreadable input → ⊥) → output input ≡ printed (answer (drop 16 input) (requestOf input) replySize)

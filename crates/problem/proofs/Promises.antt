@@ -3,9 +3,9 @@
 -- CallPromises.antt says the same of calls of the entry itself, by the number returned and the bytes in the buffer; the entry ends for every call. Assumes nothing.
 use mathlib.Core.Path.{_≡_, refl, sym, ap, _∙_, subst}
 use mathlib.Core.Bool.{Bool, true, false}
-use mathlib.Core.Logic.{_⊎_, _↔_}
+use mathlib.Core.Logic.{_⊎_, inl, inr, _↔_}
 use mathlib.Core.List.{List, [], _∷_, _++_, List·Memᴰ}
-use Prim.Native.Nat.{ℕ, _*_, _≤_, _<_, min}
+use Prim.Native.Nat.{ℕ, _+_, _*_, _/_, _%_, _≤_, _<_, min}
 use native.Mathlib.Omega.{arith}
 use lib.Dec.{ltb}
 use lib.ListN.{length, take, drop}
@@ -14,17 +14,22 @@ use borrow.Author.Tests.{ltb-true, ltb-false}
 use Rattle.laws.specs.Choosing.{Pairwise, lexBy}
 use Rattle.laws.specs.Sets.{inBoth}
 use Rattle.problem.specs.declared.Arc.{Arc}
+use Rattle.problem.specs.declared.Fault.{Fault}
+use Rattle.problem.specs.declared.Fault.the-variants.{Sound}
 use Rattle.problem.specs.declared.Request.{Request}
-use Rattle.problem.specs.Table.{mostArcs, riskWidth, mostReach, mostAllowance, replySize, Bytes, arcsOf, allSound}
+use Rattle.problem.specs.Table.{mostArcs, riskWidth, mostReach, mostAllowance, replySize, Bytes, arcsOf, SoundArc, HasFault, faultOf, faultNumber, allSound}
 use Rattle.problem.specs.Routes.{metresOf, IsPath, Route, routeOf, precedes}
 use Rattle.problem.specs.Pairs.{Pair, pair, sharedRisks, sharedCount, total, judged, NoWorse, Step, ofRank, rankedKey, floor, every, leastSettled, ranked}
 use Rattle.problem.specs.Reply.{meshOf, answer, after, verdictIn, sharedIn, floorIn, rankedIn, mainMetresIn, standbyMetresIn, totalIn, sharedRisksIn, mainIn, standbyIn}
 use Rattle.problem.specs.Printed.{kilometres, text, printed, requestOf, Unreadable, output}
-use Rattle.problem.specs.Calls.{routesOf, RouteOf, WayOf, pairMadeOf, pairSaid, allowing, Applies}
+use Rattle.problem.specs.Calls.{routesOf, RouteOf, WayOf, pairMadeOf, pairSaid, allowing, Applies, Told, LowestFault}
+use Rattle.problem.proofs.FaultLaws as FaultLaws
 use Rattle.problem.proofs.PathLaws as PathLaws
 use Rattle.problem.proofs.RankingLaws.{ranking-exact, ranking-strict}
 use Rattle.problem.proofs.PairLaws as PairLaws
-use Rattle.problem.proofs.CallLaws.{WithPair, low-number, high-number, number-range, refused-told, answered-none, numbered}
+use Rattle.problem.proofs.RefusalLaws.{unknown}
+use Rattle.problem.proofs.CallLaws as CallLaws
+use Rattle.problem.proofs.CallLaws.{WithPair, low-number, high-number, refused-told, answered-none, numbered, no-route-exactly, number-known}
 use Rattle.problem.proofs.SaidLaws as Said
 use Rattle.problem.proofs.PrintedLaws as Printed
 
@@ -45,24 +50,21 @@ module _ (table : List ℕ) (q : Request) (size : ℕ) where
   -- ==== Demand 1. "For every table, request and reply buffer the planner ends and answers; it checks everything itself, in a fixed order,
   -- ==== refuses by number, and a refusal changes no byte of the reply; 'no route' exactly when none fits the reach."
 
-  -- each number is given exactly where its own test holds and that of no smaller number
-  pub checked-in-order : (n : ℕ) → 2 ≤ n → (number ≡ n) ↔ (Applies table q size n × ((i : ℕ) → i < n → Applies table q size i → ⊥))
+  -- each number is given exactly where its own test holds, none of an earlier turn, and in its own turn none of a smaller number
+  pub checked-in-order : (n : ℕ) → 2 ≤ n → (number ≡ n) ↔ Told table q size n
   checked-in-order = numbered table q size
 
   -- a call is answered exactly where no test holds
-  pub answered-exactly : (number < 2) ↔ ((i : ℕ) → Applies table q size i → ⊥)
-  answered-exactly = (λ h i a. answered-none table q size h a, λ f. go f (ltb number 2) refl)
+  pub answered-exactly : (number < 2) ↔ ((t i : ℕ) → Applies table q size t i → ⊥)
+  answered-exactly = (λ h t i a. answered-none table q size h a, λ f. go f (ltb number 2) refl)
     where
-      go : ((i : ℕ) → Applies table q size i → ⊥) → (b : Bool) → ltb number 2 ≡ b → number < 2
+      go : ((t i : ℕ) → Applies table q size t i → ⊥) → (b : Bool) → ltb number 2 ≡ b → number < 2
       go f true e = ltb-true number 2 e
-      go f false e = absurd (f number (refused-told table q size (ltb-false number 2 e) .applies))
+      go f false e = absurd (f _ number (refused-told table q size (ltb-false number 2 e) .applies))
 
   -- "no route" exactly where, no earlier test holding, no route fits the reach
-  pub ten-exactly : ((i : ℕ) → i < 10 → Applies table q size i → ⊥) → (number ≡ 10) ↔ ((ks : List ℕ) → RouteOf table q ks → ⊥)
-  ten-exactly below = (λ e. fits (numbered table q size 10 (omega arith) .0 e .0), λ f. numbered table q size 10 (omega arith) .1 (Applies.no-route f, below))
-    where
-      fits : Applies table q size 10 → (ks : List ℕ) → RouteOf table q ks → ⊥
-      fits (Applies.no-route f) = f
+  pub ten-exactly : ((t i : ℕ) → t < 10 → Applies table q size t i → ⊥) → (number ≡ 10) ↔ ((ks : List ℕ) → RouteOf table q ks → ⊥)
+  ten-exactly below = no-route-exactly table q size below
 
   -- a refusal leaves every byte of the buffer
   pub refusal-keeps-buffer : 2 ≤ number → (buffer : List ℕ) → after (answer table q size) buffer ≡ buffer
@@ -204,7 +206,31 @@ largest-reach table q = PathLaws.largest-reach (meshOf table q)
 
 -- number 11 has ended: no call returns it
 pub never-eleven : (table : List ℕ) (q : Request) (size : ℕ) → number table q size ≡ 11 → ⊥
-never-eleven table q size e = omega (arith, number-range table q size)
+never-eleven table q size e = unknown (inr (omega arith)) (number-known table q size)
+
+-- ==== Request T-02. "Split it: 20 node, 21 equal ends, 22 length, 23 spare bytes, returned as that number plus 256 times the arc number. The lowest faulty arc
+-- ==== is named; within it, 20 to 23 in order; 9 is no longer given; the place in the order stays."
+
+-- once the checks before have passed, the number is n + 256 i exactly where arc i has the fault of number n as its first and every arc below i is sound
+pub arc-named : (table : List ℕ) (q : Request) (size : ℕ) → ((t i : ℕ) → t < 9 → Applies table q size t i → ⊥)
+    → (n i : ℕ) → 20 ≤ n → n ≤ 23 → (number table q size ≡ n + 256 * i) ↔ LowestFault (arcsOf table) i n
+arc-named = CallLaws.arc-named
+
+-- so whatever number past 10 is given can be taken apart: divided by 256 it says the arc, and what remains says its first fault
+pub arc-apart : (table : List ℕ) (q : Request) (size : ℕ) → 10 < number table q size → LowestFault (arcsOf table) (number table q size / 256) (number table q size % 256)
+arc-apart = CallLaws.arc-apart
+
+-- an arc's first fault is, of those that it has, that of the smallest number
+pub first-fault : (a : Arc) (f : Fault) → (f ≡ Sound → ⊥) → (faultOf a ≡ f) ↔ (HasFault a f × ((g : Fault) → faultNumber g < faultNumber f → HasFault a g → ⊥))
+first-fault = FaultLaws.first-exactly
+
+-- and the sound arcs are those that have none
+pub sound-exactly : (a : Arc) → SoundArc a ↔ ((f : Fault) → HasFault a f → ⊥)
+sound-exactly a = (λ s f h. FaultLaws.sound-none s h, FaultLaws.none-sound a)
+
+-- number 9 has ended: no call returns it
+pub never-nine : (table : List ℕ) (q : Request) (size : ℕ) → number table q size ≡ 9 → ⊥
+never-nine table q size e = unknown (inl e) (number-known table q size)
 
 -- ==== Of any pair, and of any length
 
@@ -230,6 +256,9 @@ twelve-exactly = Printed.twelve-exactly
 pub otherwise-answered : (input : List ℕ) → (Unreadable input → ⊥) → output input ≡ printed (answer (drop 16 input) (requestOf input) replySize)
 otherwise-answered = Printed.otherwise-answered
 
--- number 11 has ended: it is printed for no input
+-- numbers 9 and 11 have ended: they are printed for no input
+pub never-prints-nine : (input : List ℕ) → output input ≡ text "refused 9\n" → ⊥
+never-prints-nine = Printed.never-prints-nine
+
 pub never-prints-eleven : (input : List ℕ) → output input ≡ text "refused 11\n" → ⊥
 never-prints-eleven = Printed.never-prints-eleven

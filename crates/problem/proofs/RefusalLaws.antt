@@ -1,108 +1,233 @@
--- Refusals, in the order of the checks: a refusal's own test holds, and that of no smaller number. The tests are asked one after the other, down the definition's own order. Assumes nothing.
-use mathlib.Core.Path.{_≡_, refl, sym, _∙_, subst}
-use mathlib.Core.Logic.{inl, inr}
+-- Refusals, in the order of the checks: a number's own test holds, none of an earlier turn, and in its turn none of a smaller number. The tests are asked one after
+-- the other, down the definition's own order; the turn of the arcs tells the first faulty one. Assumes nothing.
+use mathlib.Core.Path.{_≡_, refl, sym, ap, _∙_, subst}
+use mathlib.Core.Logic.{_⊎_, inl, inr}
 use mathlib.Core.Bool.{Bool, true, false, _||_, not}
-use mathlib.Core.List.{List}
-use Prim.Native.Nat.{ℕ, suc, _%_, _≤_, _<_}
+use mathlib.Core.List.{List, []}
+use Prim.Native.Nat.{ℕ, suc, _+_, _*_, _%_, _≤_, _<_}
 use native.Mathlib.Omega.{arith}
 use lib.Dec.{eqb, ltb}
 use lib.ListN.{length}
 use borrow.Author.Tests.{ltb-true, ltb-false, eqb-true, eqb-false, not-true, not-false}
 use Rattle.laws.specs.Choosing.{if_then_else_}
 use Rattle.laws.proofs.BoolLaws.{or-cases, neither}
+use Rattle.problem.specs.declared.Arc.{Arc}
+use Rattle.problem.specs.declared.Fault.{Fault}
 use Rattle.problem.specs.declared.Request.{Request}
-use Rattle.problem.specs.Table.{lastNode, mostReach, mostAllowance, mostTableBytes, replySize, arcsOf, arcsNumber, allSound}
+use Rattle.problem.specs.Table.{lastNode, mostReach, mostAllowance, mostTableBytes, replySize, arcsOf, HasFault, faultOf, faultNumber, arcNumber, arcsNumber, allSound}
+use Rattle.problem.specs.Routes.{arcAt}
 use Rattle.problem.specs.Reply.{firstNumber, sizeChecks, requestChecks, arcChecks, refusal, Passed}
-use Rattle.problem.specs.Calls.{RouteOf, Applies}
-use Rattle.problem.proofs.TableLaws.{number-unsound, number-nine, sound-at}
+use Rattle.problem.specs.Calls.{RouteOf, Applies, Told, LowestFault}
+use Rattle.problem.proofs.ToldLaws.{Tells, told}
+use Rattle.problem.proofs.FaultLaws.{Faulty, fault-had, fault-first, fault-range, sound-none, faulty-number, first-lowest}
+use Rattle.problem.proofs.TableLaws.{arcs-length, sound-at}
+
+-- the numbers that there are: none past 10 but from 20 on those of arcs, of which there are at most 128; and 9 is none
+abbrev pub Known : ℕ → Type 0
+Known n = ((n ≤ 10) × (n ≡ 9 → ⊥)) ⊎ ((20 ≤ n) × (n ≤ 23 + 256 * 127))
+
+pub unknown : {n : ℕ} → (n ≡ 9) ⊎ ((10 < n) × (n < 20)) → Known n → ⊥
+unknown (inl nine) (inl known) = known .1 nine
+unknown (inl nine) (inr known) = omega (arith, known .0)
+unknown (inr between) (inl known) = omega (arith, known .0)
+unknown (inr between) (inr known) = omega (arith, known .0)
 
 module _ (table : List ℕ) (q : Request) (size : ℕ) where
-  -- no test of a smaller number holds
-  abbrev pub NoneBelow : ℕ → Type 0
-  NoneBelow n = (i : ℕ) → i < n → Applies table q size i → ⊥
+  -- ---- turns and numbers
 
-  -- what a refusal by a number says
-  pub record Told (n : ℕ) : Type 0 where
-    pub applies : Applies table q size n
-    pub none-below : NoneBelow n
+  abbrev arcs : List Arc
+  arcs = arcsOf table
 
-  from-two : {i : ℕ} → Applies table q size i → 2 ≤ i
-  from-two (Applies.table-too-long h) = omega arith
-  from-two (Applies.table-torn h) = omega arith
-  from-two (Applies.buffer-too-small h) = omega arith
-  from-two (Applies.source-too-high h) = omega arith
-  from-two (Applies.terminal-too-high h) = omega arith
-  from-two (Applies.ends-equal h) = omega arith
-  from-two (Applies.reach-too-far h) = omega arith
-  from-two (Applies.allowance-none h) = omega arith
-  from-two (Applies.allowance-too-large h) = omega arith
-  from-two (Applies.arc-out-of-range k b h) = omega arith
-  from-two (Applies.no-route h) = omega arith
+  -- no test of an earlier turn holds
+  abbrev pub NoneBefore : ℕ → Type 0
+  NoneBefore turn = (t i : ℕ) → t < turn → Applies table q size t i → ⊥
 
-  -- one test more that does not hold
-  none-next : (n : ℕ) → NoneBelow n → (Applies table q size n → ⊥) → NoneBelow (suc n)
-  none-next n below fails i l a = go (eqb i n) refl
+  -- each turn but that of the arcs has its own number alone
+  data Turn : (turn number : ℕ) → Type 0 where
+    own : (n : ℕ) → (2 ≤ n) × (n ≤ 10) × (n ≡ 9 → ⊥) → Turn n n
+    of-arc : (k : ℕ) (f : Fault) → k < length arcs → HasFault (arcAt arcs k) f → Turn 9 (faultNumber f + 256 * k)
+
+  turn-of : {t i : ℕ} → Applies table q size t i → Turn t i
+  turn-of (Applies.table-too-long h) = own 2 (omega arith)
+  turn-of (Applies.table-torn h) = own 3 (omega arith)
+  turn-of (Applies.buffer-too-small h) = own 4 (omega arith)
+  turn-of (Applies.source-too-high h) = own 5 (omega arith)
+  turn-of (Applies.terminal-too-high h) = own 5 (omega arith)
+  turn-of (Applies.ends-equal h) = own 6 (omega arith)
+  turn-of (Applies.reach-too-far h) = own 7 (omega arith)
+  turn-of (Applies.allowance-none h) = own 8 (omega arith)
+  turn-of (Applies.allowance-too-large h) = own 8 (omega arith)
+  turn-of (Applies.arc-faulty k f b h) = of-arc k f b h
+  turn-of (Applies.no-route h) = own 10 (omega arith)
+
+  from-two : {t i : ℕ} → Turn t i → (2 ≤ t) × (2 ≤ i)
+  from-two (own n h) = (h .0, h .0)
+  from-two (of-arc k f b h) = (omega arith, omega (arith, fault-first (arcAt arcs k) h))
+
+  single : {t i : ℕ} → (t ≡ 9 → ⊥) → Turn t i → i ≡ t
+  single other (own n h) = refl
+  single other (of-arc k f b h) = absurd (other refl)
+
+  -- a number up to 10 is its turn
+  pub own-turn : {t n : ℕ} → n ≤ 10 → Applies table q size t n → t ≡ n
+  own-turn low a = go low (turn-of a)
     where
-      go : (b : Bool) → eqb i n ≡ b → ⊥
-      go true e = fails (subst (Applies table q size) (eqb-true i n e) a)
-      go false e = below i (omega (arith, eqb-false i n e)) a
+      go : {t n : ℕ} → n ≤ 10 → Turn t n → t ≡ n
+      go low (own n h) = refl
+      go low (of-arc k f b h) = absurd (omega (arith, fault-first (arcAt arcs k) h))
+
+  pub told-two : {n : ℕ} → Told table q size n → 2 ≤ n
+  told-two told = from-two (turn-of (told .applies)) .1
+
+  -- a number that is told by a turn of its own
+  pub told-own : (n : ℕ) → (n ≡ 9 → ⊥) → Applies table q size n n → NoneBefore n → Told table q size n
+  told-own n other a below = record { turn = n; applies = a; none-before = below; none-smaller = λ i l b. omega (arith, single other (turn-of b)) }
+
+  -- but one number is told
+  pub told-same : {m n : ℕ} → Told table q size m → Told table q size n → m ≡ n
+  told-same {m} {n} a b =
+      let no-sooner : a .turn < b .turn → ⊥ = λ l. b .none-before _ _ l (a .applies) in
+      let no-later : b .turn < a .turn → ⊥ = λ l. a .none-before _ _ l (b .applies) in
+      let same : a .turn ≡ b .turn = omega arith in
+      let not-less : m < n → ⊥ = λ l. b .none-smaller m l (subst (λ (t : ℕ). Applies table q size t m) same (a .applies)) in
+      let not-more : n < m → ⊥ = λ l. a .none-smaller n l (subst (λ (t : ℕ). Applies table q size t n) (sym same) (b .applies)) in
+      omega arith
+
+  -- ---- the turn of the arcs
+
+  -- the first faulty arc is told with its first fault, where no turn before comes to a number
+  pub told-faulty : NoneBefore 9 → {k : ℕ} → Faulty arcs k → Told table q size (arcNumber (arcAt arcs k) + 256 * k)
+  told-faulty below {k} f =
+      record {
+        turn = 9;
+        applies = Applies.arc-faulty k (faultOf (arcAt arcs k)) (f .inside) (fault-had (arcAt arcs k) (f .has));
+        none-before = below;
+        none-smaller = λ i l a. smaller refl (turn-of a) l;
+      }
+    where
+      other-arc : (j : ℕ) (g : Fault) (b : Bool) → eqb j k ≡ b → HasFault (arcAt arcs j) g → faultNumber g + 256 * j < arcNumber (arcAt arcs k) + 256 * k → ⊥
+      other-arc j g true e h l = omega (arith, eqb-true j k e, ap (λ (x : ℕ). arcNumber (arcAt arcs x)) (eqb-true j k e), fault-first (arcAt arcs j) h .1)
+      other-arc j g false e h l =
+          let first = fault-first (arcAt arcs j) h in
+          let lower : j < k = omega (arith, eqb-false j k e, fault-range (faultOf (arcAt arcs k))) in
+          omega (arith, first .0, f .none-before j lower)
+
+      smaller : {t i : ℕ} → t ≡ 9 → Turn t i → i < arcNumber (arcAt arcs k) + 256 * k → ⊥
+      smaller nine (own n h) l = h .2 nine
+      smaller nine (of-arc j g b h) l = other-arc j g (eqb j k) refl h l
+
+  -- which arc a number past 10 tells
+  pub record Names (n : ℕ) : Type 0 where
+    pub arc : ℕ
+    pub faulty : Faulty arcs arc
+    pub number-is : n ≡ arcNumber (arcAt arcs arc) + 256 * arc
+
+  pub told-names : {n : ℕ} → 10 < n → Told table q size n → Names n
+  told-names past told = go past (turn-of (told .applies)) (told .none-smaller)
+    where
+      go : {t n : ℕ} → 10 < n → Turn t n → ((i : ℕ) → i < n → Applies table q size t i → ⊥) → Names n
+      go past (own n h) none = absurd (omega (arith, h .1))
+      go past (of-arc k f b h) none =
+          let first = fault-first (arcAt arcs k) h in
+          let not-less : arcNumber (arcAt arcs k) < faultNumber f → ⊥ = λ l. none (arcNumber (arcAt arcs k) + 256 * k) (omega arith) (at k b (λ z. omega (arith, first .0))) in
+          record {
+            arc = k;
+            faulty = record { inside = b; has = λ z. omega (arith, first .0); none-before = λ j l. sound-below j l (eqb (arcNumber (arcAt arcs j)) 0) refl };
+            number-is = omega (arith, first .1);
+          }
+        where
+          at : (j : ℕ) → j < length arcs → (arcNumber (arcAt arcs j) ≡ 0 → ⊥) → Applies table q size 9 (arcNumber (arcAt arcs j) + 256 * j)
+          at j l some = Applies.arc-faulty j (faultOf (arcAt arcs j)) l (fault-had (arcAt arcs j) some)
+
+          sound-below : (j : ℕ) → j < k → (s : Bool) → eqb (arcNumber (arcAt arcs j)) 0 ≡ s → arcNumber (arcAt arcs j) ≡ 0
+          sound-below j l true e = eqb-true _ _ e
+          sound-below j l false e = absurd (none (arcNumber (arcAt arcs j) + 256 * j) (omega (arith, fault-range (faultOf (arcAt arcs j)))) (at j (omega arith) (eqb-false _ _ e)))
+
+  -- taken apart, it says that arc's number and that of its first fault
+  pub names-lowest : {m : ℕ} → Names m → (i n : ℕ) → n < 256 → m ≡ n + 256 * i → LowestFault arcs i n
+  names-lowest names i n low e =
+      let range = fault-range (faultOf (arcAt arcs (names .arc))) in
+      let arc-is : names .arc ≡ i = omega (arith, names .number-is, e, range) in
+      let fault-is : arcNumber (arcAt arcs (names .arc)) ≡ n = omega (arith, names .number-is, e, range) in
+      subst (λ (k : ℕ). LowestFault arcs k n) arc-is (subst (LowestFault arcs (names .arc)) fault-is (first-lowest arcs (names .faulty)))
+
+  pub told-known : {n : ℕ} → Told table q size n → Known n
+  told-known told = go (turn-of (told .applies)) (told .none-before)
+    where
+      go : {t n : ℕ} → Turn t n → NoneBefore t → Known n
+      go (own n h) before = inl (h .1, h .2)
+      go (of-arc k f b h) before =
+          let few : mostTableBytes < length table → ⊥ = λ l. before 2 2 (omega arith) (Applies.table-too-long l) in
+          inr (omega (arith, fault-first (arcAt arcs k) h), omega (arith, fault-range f, arcs-length table))
+
+  -- ---- the checks, one after the other
+
+  -- one turn more that comes to no number
+  none-next : (m : ℕ) → NoneBefore m → ((i : ℕ) → Applies table q size m i → ⊥) → NoneBefore (suc m)
+  none-next m below fails t i l a = go (eqb t m) refl
+    where
+      go : (b : Bool) → eqb t m ≡ b → ⊥
+      go true e = fails i (subst (λ (s : ℕ). Applies table q size s i) (eqb-true t m e) a)
+      go false e = below t i (omega (arith, eqb-false t m e)) a
 
   -- one row of the order: its number is told where its test holds; else what follows it decides
-  row : {n next : ℕ} (m : ℕ) (test : Bool) → NoneBelow m → (test ≡ true → Applies table q size m) → (test ≡ false → Applies table q size m → ⊥)
-      → (NoneBelow (suc m) → next ≡ n → Told n) → (if test then m else next) ≡ n → Told n
-  row m true below holds fails on e = subst Told e (record { applies = holds refl; none-below = below })
-  row m false below holds fails on e = on (none-next m below (fails refl)) e
+  row : {n next : ℕ} (m : ℕ) → (m ≡ 9 → ⊥) → (test : Bool) → NoneBefore m → (test ≡ true → Applies table q size m m) → (test ≡ false → (i : ℕ) → Applies table q size m i → ⊥)
+      → (NoneBefore (suc m) → next ≡ n → Told table q size n) → (if test then m else next) ≡ n → Told table q size n
+  row m other true below holds fails on e = subst (Told table q size) e (told-own m other (holds refl) below)
+  row m other false below holds fails on e = on (none-next m below (fails refl)) e
 
-  arcs-row : {n : ℕ} (b : Bool) → allSound (arcsOf table) ≡ b → NoneBelow 9 → (if not b then arcsNumber (arcsOf table) else 0) ≡ suc n → Told (suc n)
+  arcs-row : {n : ℕ} (b : Bool) → allSound arcs ≡ b → NoneBefore 9 → (if not b then arcsNumber arcs else 0) ≡ suc n → Told table q size (suc n)
+  unfolding arcsNumber
   arcs-row true s below e = absurd (omega arith)
-  arcs-row false s below e =
-      let nine : arcsNumber (arcsOf table) ≡ 9 = number-nine (arcsOf table) (λ z. omega arith) in
-      let u = number-unsound (arcsOf table) (λ z. omega arith) in
-      subst Told (sym nine ∙ e) (record { applies = Applies.arc-out-of-range (u .0) (u .1) (u .2); none-below = below })
+  arcs-row {n} false s below e = go (told arcNumber (arcAt [] 0) arcs)
+    where
+      go : Tells arcNumber (arcAt [] 0) 0 arcs → Told table q size (suc n)
+      go (Tells.none f z) = absurd (omega (arith, sym z ∙ e))
+      go (Tells.first k f is) = subst (Told table q size) (sym (faulty-number arcs f) ∙ e) (told-faulty below f)
 
   -- a refusal by a check is that of the first whose test holds
-  pub refusal-told : (n : ℕ) → refusal table q size ≡ suc n → Told (suc n)
+  pub refusal-told : (n : ℕ) → refusal table q size ≡ suc n → Told table q size (suc n)
   unfolding refusal sizeChecks requestChecks arcChecks firstNumber
   refusal-told n e =
-      row 2 (ltb mostTableBytes (length table)) (λ i l a. omega (arith, from-two a)) (λ t. Applies.table-too-long (ltb-true _ _ t)) long
-      (λ below. row 3 (not (eqb (length table % 16) 0)) below (λ t. Applies.table-torn (eqb-false _ _ (not-true _ t))) torn
-      (λ below. row 4 (ltb size replySize) below (λ t. Applies.buffer-too-small (ltb-true _ _ t)) small
-      (λ below. row 5 (ltb lastNode (q .source) || ltb lastNode (q .terminal)) below high no-high
-      (λ below. row 6 (eqb (q .source) (q .terminal)) below (λ t. Applies.ends-equal (eqb-true _ _ t)) equal
-      (λ below. row 7 (ltb mostReach (q .reach)) below (λ t. Applies.reach-too-far (ltb-true _ _ t)) far
-      (λ below. row 8 (eqb (q .allowance) 0 || ltb mostAllowance (q .allowance)) below allowed not-allowed (arcs-row (allSound (arcsOf table)) refl))))))) e
+      row 2 (λ e. omega arith) (ltb mostTableBytes (length table)) (λ t i l a. omega (arith, from-two (turn-of a))) (λ t. Applies.table-too-long (ltb-true _ _ t)) long
+      (λ below. row 3 (λ e. omega arith) (not (eqb (length table % 16) 0)) below (λ t. Applies.table-torn (eqb-false _ _ (not-true _ t))) torn
+      (λ below. row 4 (λ e. omega arith) (ltb size replySize) below (λ t. Applies.buffer-too-small (ltb-true _ _ t)) small
+      (λ below. row 5 (λ e. omega arith) (ltb lastNode (q .source) || ltb lastNode (q .terminal)) below high no-high
+      (λ below. row 6 (λ e. omega arith) (eqb (q .source) (q .terminal)) below (λ t. Applies.ends-equal (eqb-true _ _ t)) equal
+      (λ below. row 7 (λ e. omega arith) (ltb mostReach (q .reach)) below (λ t. Applies.reach-too-far (ltb-true _ _ t)) far
+      (λ below. row 8 (λ e. omega arith) (eqb (q .allowance) 0 || ltb mostAllowance (q .allowance)) below allowed not-allowed (arcs-row (allSound (arcsOf table)) refl))))))) e
     where
-      long : ltb mostTableBytes (length table) ≡ false → Applies table q size 2 → ⊥
-      long t (Applies.table-too-long h) = omega (arith, ltb-false mostTableBytes (length table) t)
+      long : ltb mostTableBytes (length table) ≡ false → (i : ℕ) → Applies table q size 2 i → ⊥
+      long t i (Applies.table-too-long h) = omega (arith, ltb-false mostTableBytes (length table) t)
 
-      torn : not (eqb (length table % 16) 0) ≡ false → Applies table q size 3 → ⊥
-      torn t (Applies.table-torn h) = h (eqb-true _ _ (not-false _ t))
+      torn : not (eqb (length table % 16) 0) ≡ false → (i : ℕ) → Applies table q size 3 i → ⊥
+      torn t i (Applies.table-torn h) = h (eqb-true _ _ (not-false _ t))
 
-      small : ltb size replySize ≡ false → Applies table q size 4 → ⊥
-      small t (Applies.buffer-too-small h) = omega (arith, ltb-false size replySize t)
+      small : ltb size replySize ≡ false → (i : ℕ) → Applies table q size 4 i → ⊥
+      small t i (Applies.buffer-too-small h) = omega (arith, ltb-false size replySize t)
 
-      high : (ltb lastNode (q .source) || ltb lastNode (q .terminal)) ≡ true → Applies table q size 5
+      high : (ltb lastNode (q .source) || ltb lastNode (q .terminal)) ≡ true → Applies table q size 5 5
       high t = elim (or-cases (ltb lastNode (q .source)) (ltb lastNode (q .terminal)) t) [ inl a ↦ Applies.source-too-high (ltb-true _ _ a) | inr a ↦ Applies.terminal-too-high (ltb-true _ _ a) ]
 
-      no-high : (ltb lastNode (q .source) || ltb lastNode (q .terminal)) ≡ false → Applies table q size 5 → ⊥
-      no-high t (Applies.source-too-high h) = omega (arith, ltb-false lastNode (q .source) (neither (ltb lastNode (q .source)) (ltb lastNode (q .terminal)) t .0))
-      no-high t (Applies.terminal-too-high h) = omega (arith, ltb-false lastNode (q .terminal) (neither (ltb lastNode (q .source)) (ltb lastNode (q .terminal)) t .1))
+      no-high : (ltb lastNode (q .source) || ltb lastNode (q .terminal)) ≡ false → (i : ℕ) → Applies table q size 5 i → ⊥
+      no-high t i (Applies.source-too-high h) = omega (arith, ltb-false lastNode (q .source) (neither (ltb lastNode (q .source)) (ltb lastNode (q .terminal)) t .0))
+      no-high t i (Applies.terminal-too-high h) = omega (arith, ltb-false lastNode (q .terminal) (neither (ltb lastNode (q .source)) (ltb lastNode (q .terminal)) t .1))
 
-      equal : eqb (q .source) (q .terminal) ≡ false → Applies table q size 6 → ⊥
-      equal t (Applies.ends-equal h) = eqb-false _ _ t h
+      equal : eqb (q .source) (q .terminal) ≡ false → (i : ℕ) → Applies table q size 6 i → ⊥
+      equal t i (Applies.ends-equal h) = eqb-false _ _ t h
 
-      far : ltb mostReach (q .reach) ≡ false → Applies table q size 7 → ⊥
-      far t (Applies.reach-too-far h) = omega (arith, ltb-false mostReach (q .reach) t)
+      far : ltb mostReach (q .reach) ≡ false → (i : ℕ) → Applies table q size 7 i → ⊥
+      far t i (Applies.reach-too-far h) = omega (arith, ltb-false mostReach (q .reach) t)
 
-      allowed : (eqb (q .allowance) 0 || ltb mostAllowance (q .allowance)) ≡ true → Applies table q size 8
+      allowed : (eqb (q .allowance) 0 || ltb mostAllowance (q .allowance)) ≡ true → Applies table q size 8 8
       allowed t = elim (or-cases (eqb (q .allowance) 0) (ltb mostAllowance (q .allowance)) t) [ inl a ↦ Applies.allowance-none (eqb-true _ _ a) | inr a ↦ Applies.allowance-too-large (ltb-true _ _ a) ]
 
-      not-allowed : (eqb (q .allowance) 0 || ltb mostAllowance (q .allowance)) ≡ false → Applies table q size 8 → ⊥
-      not-allowed t (Applies.allowance-none h) = eqb-false _ _ (neither (eqb (q .allowance) 0) (ltb mostAllowance (q .allowance)) t .0) h
-      not-allowed t (Applies.allowance-too-large h) = omega (arith, ltb-false mostAllowance (q .allowance) (neither (eqb (q .allowance) 0) (ltb mostAllowance (q .allowance)) t .1))
+      not-allowed : (eqb (q .allowance) 0 || ltb mostAllowance (q .allowance)) ≡ false → (i : ℕ) → Applies table q size 8 i → ⊥
+      not-allowed t i (Applies.allowance-none h) = eqb-false _ _ (neither (eqb (q .allowance) 0) (ltb mostAllowance (q .allowance)) t .0) h
+      not-allowed t i (Applies.allowance-too-large h) = omega (arith, ltb-false mostAllowance (q .allowance) (neither (eqb (q .allowance) 0) (ltb mostAllowance (q .allowance)) t .1))
 
   -- where the checks have passed, the one test that can still hold is that of 10
-  pub passed-ten : Passed table q size → {i : ℕ} → Applies table q size i → (i ≡ 10) × ((ks : List ℕ) → RouteOf table q ks → ⊥)
+  pub passed-ten : Passed table q size → {t i : ℕ} → Applies table q size t i → (t ≡ 10) × ((ks : List ℕ) → RouteOf table q ks → ⊥)
   passed-ten p (Applies.table-too-long h) = absurd (omega (arith, p .checked .few-bytes))
   passed-ten p (Applies.table-torn h) = absurd (h (p .checked .whole-arcs))
   passed-ten p (Applies.buffer-too-small h) = absurd (omega (arith, p .room))
@@ -112,8 +237,8 @@ module _ (table : List ℕ) (q : Request) (size : ℕ) where
   passed-ten p (Applies.reach-too-far h) = absurd (omega (arith, p .checked .reach-range))
   passed-ten p (Applies.allowance-none h) = absurd (omega (arith, p .checked .some-allowance))
   passed-ten p (Applies.allowance-too-large h) = absurd (omega (arith, p .checked .allowance-range))
-  passed-ten p (Applies.arc-out-of-range k b h) = absurd (h (sound-at (arcsOf table) (p .checked .sound) k b))
+  passed-ten p (Applies.arc-faulty k f b h) = absurd (sound-none (sound-at arcs (p .checked .sound) k b) h)
   passed-ten p (Applies.no-route h) = (refl, h)
 
-  pub passed-below : Passed table q size → NoneBelow 10
-  passed-below p i l a = omega (arith, passed-ten p a .0)
+  pub passed-before : Passed table q size → NoneBefore 10
+  passed-before p t i l a = omega (arith, passed-ten p a .0)

@@ -11,13 +11,14 @@ use borrow.Author.Tests.{ltb-false, le-ltb, eqb-true, eqb-false, eq-eqb, ne-eqb,
 use Rattle.laws.specs.Choosing.{if_then_else_}
 use Rattle.laws.proofs.BoolLaws.{neither}
 use Rattle.problem.specs.declared.Request.{Request}
-use Rattle.problem.specs.Table.{lastNode, mostArcs, mostReach, mostAllowance, mostTableBytes, replySize, bytesOf, arcsOf, arcsNumber, allSound}
+use Rattle.problem.specs.Table.{lastNode, mostArcs, mostReach, mostAllowance, mostTableBytes, replySize, bytesOf, arcsOf, allSound}
 use Rattle.problem.specs.Routes.{Route}
 use Rattle.problem.specs.Pairs.{Step, Pair, sharedRisks, sharedCount, floor, every, best, ranked, verdict}
 use Rattle.problem.specs.Reply.{Answer, refuse, placesOf, replyOf, verdictIn, sharedIn, floorIn, rankedIn, mainMetresIn, standbyMetresIn, sharedRisksIn, mainIn, standbyIn, firstNumber, sizeChecks, requestChecks, arcChecks, refusal, Passed, planned, answerUnless, answer}
-use Rattle.problem.specs.Calls.{routesOf}
+use Rattle.problem.specs.Calls.{routesOf, Told}
 use Rattle.problem.proofs.ByteLaws.{field-at}
-use Rattle.problem.proofs.TableLaws.{number-sound, number-nine}
+use Rattle.problem.proofs.TableLaws.{number-sound}
+use Rattle.problem.proofs.RefusalLaws.{refusal-told}
 use Rattle.problem.proofs.SettleLaws.{least-settled-step}
 
 -- ---- the checks
@@ -79,31 +80,6 @@ passed-refusal {table} {q} {size} p =
       c .sound,
     )
 
--- a refusal by these checks is one of 2 to 9
-abbrev Early : ℕ → Type 0
-Early n = (2 ≤ n) × (n ≤ 9)
-
--- one row of the order
-early-row : (m : ℕ) → Early m → (test : Bool) {next n : ℕ} → (next ≡ suc n → Early (suc n)) → (if test then m else next) ≡ suc n → Early (suc n)
-early-row m h true on e = omega (arith, h .0, h .1)
-early-row m h false on e = on e
-
-early-arcs : (table : List ℕ) (n : ℕ) (b : Bool) → allSound (arcsOf table) ≡ b → (if not b then arcsNumber (arcsOf table) else 0) ≡ suc n → Early (suc n)
-early-arcs table n true s e = absurd (omega arith)
-early-arcs table n false s e = omega (arith, number-nine (arcsOf table) (λ z. omega arith))
-
-refusal-number : (table : List ℕ) (q : Request) (size n : ℕ) → refusal table q size ≡ suc n → Early (suc n)
-unfolding refusal sizeChecks requestChecks arcChecks firstNumber
-refusal-number table q size n e =
-    early-row 2 (omega arith) (ltb mostTableBytes (length table))
-    (early-row 3 (omega arith) (not (eqb (length table % 16) 0))
-    (early-row 4 (omega arith) (ltb size replySize)
-    (early-row 5 (omega arith) (ltb lastNode (q .source) || ltb lastNode (q .terminal))
-    (early-row 6 (omega arith) (eqb (q .source) (q .terminal))
-    (early-row 7 (omega arith) (ltb mostReach (q .reach))
-    (early-row 8 (omega arith) (eqb (q .allowance) 0 || ltb mostAllowance (q .allowance))
-    (early-arcs table n (allSound (arcsOf table)) refl))))))) e
-
 -- ---- how a call ends
 
 -- the pair of the answer: best(ranked)
@@ -119,8 +95,8 @@ answered table q =
     }
 
 pub data Outcome (table : List ℕ) (q : Request) (size : ℕ) : Type 0 where
-  -- by one of the checks 2 to 9
-  by-check : (n : ℕ) → refusal table q size ≡ n → 2 ≤ n → n ≤ 9 → answer table q size ≡ refuse n → Outcome table q size
+  -- by one of the checks before 10
+  by-check : (n : ℕ) → refusal table q size ≡ n → Told table q size n → answer table q size ≡ refuse n → Outcome table q size
   -- with 10
   no-route : Passed table q size → routesOf table q ≡ [] → answer table q size ≡ refuse 10 → Outcome table q size
   -- with 0 or 1
@@ -152,7 +128,7 @@ outcome table q size = by-number (refusal table q size) refl
 
     by-number : (n : ℕ) → refusal table q size ≡ n → Outcome table q size
     by-number zero e = by-length (refusal-passed table q size e) (length (routesOf table q)) refl (ap (λ (x : ℕ). answerUnless x table q) (sym e))
-    by-number (suc n) e = let r = refusal-number table q size n e in by-check (suc n) e (r .0) (r .1) (ap (λ (x : ℕ). answerUnless x table q) e)
+    by-number (suc n) e = by-check (suc n) e (refusal-told table q size n e) (ap (λ (x : ℕ). answerUnless x table q) e)
 
 -- ---- the fields of a reply, read back
 

@@ -1,11 +1,12 @@
--- Calls, as the promises speak of them: the routes and the ways of a call, the test of each number, the pair that a reply says, another allowance, and what a call of the entry does. Assumes nothing.
-use Prim.Native.Nat.{ℕ, _%_, _<_}
+-- Calls, as the promises speak of them: the routes and the ways of a call, the test of each number and its turn, the lowest faulty arc, the pair that a reply says, another allowance, and what a call of the entry does. Assumes nothing.
+use Prim.Native.Nat.{ℕ, _+_, _*_, _%_, _<_}
 use mathlib.Core.List.{List}
 use mathlib.Core.Path.{_≡_}
 use lib.ListN.{length}
 use Rattle.problem.specs.declared.Arc.{Arc}
+use Rattle.problem.specs.declared.Fault.{Fault}
 use Rattle.problem.specs.declared.Request.{Request}
-use Rattle.problem.specs.Table.{lastNode, mostReach, mostAllowance, mostTableBytes, replySize, arcsOf, SoundArc}
+use Rattle.problem.specs.Table.{lastNode, mostReach, mostAllowance, mostTableBytes, replySize, arcsOf, SoundArc, HasFault, faultNumber, arcNumber}
 use Rattle.problem.specs.Routes.{Route, IsRoute, IsWay, arcAt, routeOf, ranking}
 use Rattle.problem.specs.Pairs.{Pair, pair}
 use Rattle.problem.specs.Reply.{request, meshOf, answer, after, mainIn, standbyIn}
@@ -33,19 +34,33 @@ pairSaid arcs reply = pairMadeOf arcs (mainIn reply) (standbyIn reply)
 abbrev pub allowing : Request → ℕ → Request
 allowing q allowance = request (q .source) (q .terminal) (q .reach) allowance
 
--- 01's table of numbers: the test of each, whatever the others say. Two tests of one number are one or the other
-pub data Applies (table : List ℕ) (q : Request) (size : ℕ) : ℕ → Type 0 where
-  table-too-long : mostTableBytes < length table → Applies table q size 2
-  table-torn : (length table % 16 ≡ 0 → ⊥) → Applies table q size 3
-  buffer-too-small : size < replySize → Applies table q size 4
-  source-too-high : lastNode < q .source → Applies table q size 5
-  terminal-too-high : lastNode < q .terminal → Applies table q size 5
-  ends-equal : q .source ≡ q .terminal → Applies table q size 6
-  reach-too-far : mostReach < q .reach → Applies table q size 7
-  allowance-none : q .allowance ≡ 0 → Applies table q size 8
-  allowance-too-large : mostAllowance < q .allowance → Applies table q size 8
-  arc-out-of-range : (k : ℕ) → k < length (arcsOf table) → (SoundArc (arcAt (arcsOf table) k) → ⊥) → Applies table q size 9
-  no-route : ((ks : List ℕ) → RouteOf table q ks → ⊥) → Applies table q size 10
+-- the table of numbers: the test of each, whatever the others say, and its turn in the order of the checks. Two tests of one number are one or the other.
+-- Turns are counted as 01 has them, where a check's turn was its number; the faults of arcs have the turn that was 9's
+pub data Applies (table : List ℕ) (q : Request) (size : ℕ) : (turn number : ℕ) → Type 0 where
+  table-too-long : mostTableBytes < length table → Applies table q size 2 2
+  table-torn : (length table % 16 ≡ 0 → ⊥) → Applies table q size 3 3
+  buffer-too-small : size < replySize → Applies table q size 4 4
+  source-too-high : lastNode < q .source → Applies table q size 5 5
+  terminal-too-high : lastNode < q .terminal → Applies table q size 5 5
+  ends-equal : q .source ≡ q .terminal → Applies table q size 6 6
+  reach-too-far : mostReach < q .reach → Applies table q size 7 7
+  allowance-none : q .allowance ≡ 0 → Applies table q size 8 8
+  allowance-too-large : mostAllowance < q .allowance → Applies table q size 8 8
+  arc-faulty : (k : ℕ) (f : Fault) → k < length (arcsOf table) → HasFault (arcAt (arcsOf table) k) f → Applies table q size 9 (faultNumber f + 256 * k)
+  no-route : ((ks : List ℕ) → RouteOf table q ks → ⊥) → Applies table q size 10 10
+
+-- the number that is told: its own test holds, none of an earlier turn, and in its own turn none of a smaller number; so of faulty arcs the lowest, and of its faults the first
+pub record Told (table : List ℕ) (q : Request) (size number : ℕ) : Type 0 where
+  pub turn : ℕ
+  pub applies : Applies table q size turn number
+  pub none-before : (t i : ℕ) → t < turn → Applies table q size t i → ⊥
+  pub none-smaller : (i : ℕ) → i < number → Applies table q size turn i → ⊥
+
+-- arc i has the fault of number n as its first, and every arc below i is sound
+pub record LowestFault (arcs : List Arc) (i n : ℕ) : Type 0 where
+  pub in-table : i < length arcs
+  pub first-fault : arcNumber (arcAt arcs i) ≡ n
+  pub sound-below : (j : ℕ) → j < i → SoundArc (arcAt arcs j)
 
 -- what a call of the planning entry does: it finds `before` in the reply buffer, returns `number` and leaves `now`
 pub record Called (table : List ℕ) (q : Request) (before : List ℕ) (number : ℕ) (now : List ℕ) : Type 0 where

@@ -228,9 +228,21 @@ pub fault-by-fault
     ∷ number (arc 0 31 2000000 0) 0 1 62000000 1000000 96
     ∷ number (arc 0 31 2000000 0) 0 31 62000000 1000000 96
     ∷ []
-    ≡ 2 ∷ 3 ∷ 3 ∷ 4 ∷ 5 ∷ 5 ∷ 5 ∷ 6 ∷ 7 ∷ 8 ∷ 8 ∷ 9 ∷ 9 ∷ 9 ∷ 9 ∷ 9 ∷ 9 ∷ 9 ∷ 9 ∷ 10 ∷ 0 ∷ []
+    ≡ 2 ∷ 3 ∷ 3 ∷ 4 ∷ 5 ∷ 5 ∷ 5 ∷ 6 ∷ 7 ∷ 8 ∷ 8 ∷ 20 ∷ 22 ∷ 23 ∷ 23 ∷ 22 ∷ 20 ∷ 21 ∷ 1301 ∷ 10 ∷ 0 ∷ []
 unfolding opened
 fault-by-fault = refl
+
+-- of several faulty arcs the lowest is told, whatever its fault: arc 1, whose spare bytes are used, before arc 2, which has a higher node; arc 0 before arc 1;
+-- arc 21, a metre too long; and the last of 128
+pub lowest-told
+    : number (arc 0 1 5 0 ++ 0 ∷ 1 ∷ 1 ∷ replicate 13 0 ++ arc 32 1 5 0) 0 1 100 1 96
+    ∷ number (arc 0 1 2000001 0 ++ arc 2 2 5 0) 0 1 100 1 96
+    ∷ number (line 1000 0 21 ++ arc 0 1 2000001 0) 0 21 100 1 96
+    ∷ number (line 1000 0 31 ++ line 1000 0 31 ++ line 1000 0 31 ++ line 1000 0 31 ++ line 1000 0 3 ++ arc 7 7 0 0) 0 1 100 1 96
+    ∷ []
+    ≡ 279 ∷ 22 ∷ 5398 ∷ 32533 ∷ []
+unfolding opened
+lowest-told = refl
 
 -- of several faults of an arc the first is told, in the order node, equal ends, length, spare
 pub first-faults
@@ -255,7 +267,7 @@ starred-K = refl
 abbrev pub asked : (source terminal reach allowance : ℕ) → List ℕ
 asked source terminal reach allowance = source ∷ terminal ∷ 0 ∷ 0 ∷ [] ++ bytesOf 4 reach ++ bytesOf 4 allowance ++ bytesOf 4 0
 
--- the whole output: A1; A2, which is stopped and has routes of unequal length; K's sixteen spans of 1,999 m; refusals of one digit and of two
+-- the whole output: A1; A2, which is stopped and has routes of unequal length; K's sixteen spans of 1,999 m; refusals of one digit, of two and of four
 pub printed-A1 : output (asked 0 3 10000 1000 ++ meshA) ≡ text "settled 0 0 2\nmain 5 0 1\nstandby 5 2 3\n"
 unfolding opened
 printed-A1 = refl
@@ -271,8 +283,8 @@ unfolding opened
 printed-K = refl
 
 pub printed-refusals
-    : map output ((asked 0 3 62000001 1 ++ meshA) ∷ (asked 0 3 2999 1 ++ meshA) ∷ (asked 0 3 10000 16777217 ++ meshA) ∷ [])
-    ≡ text "refused 7\n" ∷ text "refused 10\n" ∷ text "refused 8\n" ∷ []
+    : map output ((asked 0 3 62000001 1 ++ meshA) ∷ (asked 0 3 2999 1 ++ meshA) ∷ (asked 0 3 10000 16777217 ++ meshA) ∷ (asked 0 21 10000 1 ++ line 1000 0 21 ++ arc 0 1 2000001 0) ∷ [])
+    ≡ text "refused 7\n" ∷ text "refused 10\n" ∷ text "refused 8\n" ∷ text "refused 5398\n" ∷ []
 unfolding opened
 printed-refusals = refl
 

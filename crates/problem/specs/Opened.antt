@@ -3,7 +3,7 @@ use Prim.Native.Nat.{ℕ}
 use lib.Count.{onesIn}
 use Rattle.laws.specs.Choosing.{leastFrom, keep, lexBy, insertBy, sortBy, firstFrom, firstBy}
 use Rattle.laws.specs.Sets.{bit, with}
-use Rattle.problem.specs.Table.{numberAt, bytesOf, arcOf, firstArcs, arcsOf, faultOf, arcsNumber, allSound}
+use Rattle.problem.specs.Table.{numberAt, bytesOf, arcOf, firstArcs, arcsOf, faultOf, firstTold, arcsNumber, allSound}
 use Rattle.problem.specs.Exposures.{exposed, toNothing, toAll, toOne, ofArc, joined, common, size, sharing, disjoint}
 use Rattle.problem.specs.Routes.{metresOf, exposureOf, opens, sprout, grow, routeOf, routesFrom, rankKey, precedes, within, ranking, freeLengths, shortest}
 use Rattle.problem.specs.Pairs.{sharedRisks, sharedCount, total, judgeKey, judged, pairsOf, onEvery, floor, candidates, someAt, best, settledByLength, settled, leastSettled, ranked, verdict}
@@ -11,5 +11,5 @@ use Rattle.problem.specs.Reply.{after, placesOf, replyOf, firstNumber, s
 use Rattle.problem.specs.Printed.{kilometres, text, digits, fields, lines, printed, requestOf, faulty, output}
 
 unfoldable pub opened : ℕ
-unfolding onesIn leastFrom keep lexBy insertBy sortBy firstFrom firstBy bit with numberAt bytesOf arcOf firstArcs arcsOf faultOf arcsNumber allSound exposed toNothing toAll toOne ofArc joined common size sharing disjoint metresOf exposureOf opens sprout grow routeOf routesFrom rankKey precedes within ranking freeLengths shortest sharedRisks sharedCount total judgeKey judged pairsOf onEvery floor candidates someAt best settledByLength settled leastSettled ranked verdict after placesOf replyOf firstNumber sizeChecks requestChecks arcChecks refusal planned answerUnless answer kilometres text digits fields lines printed requestOf faulty output
+unfolding onesIn leastFrom keep lexBy insertBy sortBy firstFrom firstBy bit with numberAt bytesOf arcOf firstArcs arcsOf faultOf firstTold arcsNumber allSound exposed toNothing toAll toOne ofArc joined common size sharing disjoint metresOf exposureOf opens sprout grow routeOf routesFrom rankKey precedes within ranking freeLengths shortest sharedRisks sharedCount total judgeKey judged pairsOf onEvery floor candidates someAt best settledByLength settled leastSettled ranked verdict after placesOf replyOf firstNumber sizeChecks requestChecks arcChecks refusal planned answerUnless answer kilometres text digits fields lines printed requestOf faulty output
 opened = 0

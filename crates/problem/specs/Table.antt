@@ -83,6 +83,14 @@ pub record SoundArc (a : Arc) : Type 0 where
   pub metres-range : a .metres ≤ mostArcMetres
   pub spare-zero : a .spare ≡ 0
 
+-- a fault that an arc has, whatever its others
+pub data HasFault (a : Arc) : Fault → Type 0 where
+  tail-too-high : lastNode < a .tail → HasFault a Node
+  head-too-high : lastNode < a .head → HasFault a Node
+  ends-equal : a .tail ≡ a .head → HasFault a EqualEnds
+  too-long : mostArcMetres < a .metres → HasFault a Length
+  spare-used : (a .spare ≡ 0 → ⊥) → HasFault a Spare
+
 -- the first fault of an arc, in order
 unfoldable pub faultOf : Arc → Fault
 faultOf a =
@@ -92,18 +100,26 @@ faultOf a =
     else (if not (eqb (a .spare) 0) then Spare
     else Sound)))
 
--- the number returned for each
+-- the number of each
 abbrev pub faultNumber : Fault → ℕ
 faultNumber Sound = 0
-faultNumber Node = 9
-faultNumber EqualEnds = 9
-faultNumber Length = 9
-faultNumber Spare = 9
+faultNumber Node = 20
+faultNumber EqualEnds = 21
+faultNumber Length = 22
+faultNumber Spare = 23
 
--- the number for the first arc that has a fault, or 0
+-- the number of an arc's first fault; 0 for a sound arc
+abbrev pub arcNumber : Arc → ℕ
+arcNumber a = faultNumber (faultOf a)
+
+-- of a list counted from i on, the first that has a number other than 0: that number, and 256 times which it is; 0 where none has
+unfoldable pub firstTold : {A : Type 0} → (A → ℕ) → ℕ → List A → ℕ
+firstTold number i [] = 0
+firstTold number i (a ∷ l) = if eqb (number a) 0 then firstTold number (suc i) l else number a + 256 * i
+
+-- the number returned for the lowest arc that has a fault: that of its first fault, and 256 times the arc's number; 0 where none has
 unfoldable pub arcsNumber : List Arc → ℕ
-arcsNumber [] = 0
-arcsNumber (a ∷ arcs) = if eqb (faultNumber (faultOf a)) 0 then arcsNumber arcs else faultNumber (faultOf a)
+arcsNumber arcs = firstTold arcNumber 0 arcs
 
 -- every field of every arc is in its range
 unfoldable pub allSound : List Arc → Bool

@@ -1,5 +1,7 @@
 // The kinds of data that the definitions and the code have in common, and the definitions' limits as the code has them (specs/Table.antt).
 // Everything else of this crate is definitions (specs/) and what is true of them (proofs/).
+ghost use mathlib.Core.Path.{_≡_};
+ghost use Rattle.problem.specs.Table.{faultNumber};
 
 // Nodes are numbered from 0 to LAST_NODE.
 pub const LAST_NODE: u8 = 31;
@@ -45,6 +47,19 @@ pub enum Fault {
     EqualEnds,
     Length,
     Spare,
+}
+
+// The number of each; 256 times the arc's number is added where it is returned.
+pub fn fault_number(f: Fault) -> u32
+    ensures { λ r. ⌜ r ≡ faultNumber f ⌝ }
+{
+    match f {
+        Fault::Sound => 0,
+        Fault::Node => 20,
+        Fault::EqualEnds => 21,
+        Fault::Length => 22,
+        Fault::Spare => 23,
+    }
 }
 
 // What an arc or a route is exposed to, and may have in common with another: its risks, bit r for risk r.

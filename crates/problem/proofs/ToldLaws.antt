@@ -1,0 +1,79 @@
+-- The first of a list that has a number other than 0 (`firstTold`): which it is, and the number told of it. Assumes nothing.
+use mathlib.Core.Path.{_≡_, refl, ap, _∙_}
+use mathlib.Core.Bool.{Bool, true, false}
+use mathlib.Core.List.{List, [], _∷_}
+use Prim.Native.Nat.{ℕ, zero, suc, _+_, _*_, _<_, suc-le-suc}
+use native.Mathlib.Nat.{not-suc-le-zero, le-of-suc-le-suc}
+use native.Mathlib.Omega.{arith}
+use lib.Dec.{eqb}
+use lib.ListN.{length, getD}
+use borrow.Author.Tests.{eqb-true, eqb-false}
+use Rattle.problem.specs.Table.{firstTold}
+
+module _ {A : Type 0} (number : A → ℕ) (other : A) where
+  -- the k-th is the first that has a number
+  pub record FirstAt (l : List A) (k : ℕ) : Type 0 where
+    pub inside : k < length l
+    pub has : number (getD l k other) ≡ 0 → ⊥
+    pub none-before : (j : ℕ) → j < k → number (getD l j other) ≡ 0
+
+  -- none has a number, or one is the first and is told
+  pub data Tells (i : ℕ) (l : List A) : Type 0 where
+    none : ((j : ℕ) → j < length l → number (getD l j other) ≡ 0) → firstTold number i l ≡ 0 → Tells i l
+    first : (k : ℕ) → FirstAt l k → firstTold number i l ≡ number (getD l k other) + 256 * (i + k) → Tells i l
+
+  tells : (i : ℕ) (l : List A) → Tells i l
+  unfolding firstTold
+  tells i [] = none (λ j b. absurd (not-suc-le-zero b)) refl
+  tells i (a ∷ l) = go (eqb (number a) 0) refl (tells (suc i) l)
+    where
+      go : (b : Bool) → eqb (number a) 0 ≡ b → Tells (suc i) l → Tells i (a ∷ l)
+      go false e rest = first 0 (record { inside = omega arith; has = eqb-false _ _ e; none-before = λ j b. absurd (not-suc-le-zero b) }) (rw e (omega arith))
+      go true e (none f z) = none all (rw e z)
+        where
+          all : (j : ℕ) → j < suc (length l) → number (getD (a ∷ l) j other) ≡ 0
+          all zero b = eqb-true _ _ e
+          all (suc j) b = f j (le-of-suc-le-suc b)
+      go true e (first k f is) = first (suc k) (record { inside = suc-le-suc (f .inside); has = f .has; none-before = before }) (rw e (omega (arith, is)))
+        where
+          before : (j : ℕ) → j < suc k → number (getD (a ∷ l) j other) ≡ 0
+          before zero b = eqb-true _ _ e
+          before (suc j) b = f .none-before j (le-of-suc-le-suc b)
+
+  pub told : (l : List A) → Tells 0 l
+  told l = tells 0 l
+
+  -- there is but one first
+  pub told-at : {l : List A} {k : ℕ} → FirstAt l k → firstTold number 0 l ≡ number (getD l k other) + 256 * k
+  told-at {l} {k} f = go (told l)
+    where
+      go : Tells 0 l → firstTold number 0 l ≡ number (getD l k other) + 256 * k
+      go (Tells.none all z) = absurd (f .has (all k (f .inside)))
+      go (Tells.first j g is) =
+          let not-less : j < k → ⊥ = λ b. g .has (f .none-before j b) in
+          let not-more : k < j → ⊥ = λ b. f .has (g .none-before k b) in
+          let same : j ≡ k = omega arith in
+          omega (arith, is, ap (λ (x : ℕ). number (getD l x other)) same)
+
+  pub told-none : (l : List A) → ((j : ℕ) → j < length l → number (getD l j other) ≡ 0) → firstTold number 0 l ≡ 0
+  told-none l all = go (told l)
+    where
+      go : Tells 0 l → firstTold number 0 l ≡ 0
+      go (Tells.none f z) = z
+      go (Tells.first k f is) = absurd (f .has (all k (f .inside)))
+
+  -- one more that has none
+  pub none-on : (l : List A) {k : ℕ} → ((j : ℕ) → j < k → number (getD l j other) ≡ 0) → number (getD l k other) ≡ 0 → (j : ℕ) → j < k + 1 → number (getD l j other) ≡ 0
+  none-on l {k} before z j b = go (eqb j k) refl
+    where
+      go : (s : Bool) → eqb j k ≡ s → number (getD l j other) ≡ 0
+      go true e = ap (λ (x : ℕ). number (getD l x other)) (eqb-true j k e) ∙ z
+      go false e = before j (omega (arith, eqb-false j k e))
+
+  -- where nothing is told, none has a number
+  pub untold : (l : List A) → firstTold number 0 l ≡ 0 → (j : ℕ) → j < length l → number (getD l j other) ≡ 0
+  untold l z = go (told l)
+    where
+      go : Tells 0 l → (j : ℕ) → j < length l → number (getD l j other) ≡ 0
+      go (Tells.none f e) = f
+      go (Tells.first k f is) = absurd (f .has (omega arith))
