@@ -71,18 +71,20 @@ static void print_refusal(uint32_t number)
     }
 }
 
-static void plan_and_print(const uint8_t *table, size_t table_len)
+/* Returns the number that the call returned. */
+static uint32_t plan_and_print(const uint8_t *table, size_t table_len)
 {
     uint8_t reply[FESHANGUL_REPLY_BYTES];
     uint32_t number = feshangul_plan(table, table_len, reply, sizeof reply, SOURCE, TERMINAL, REACH, ALLOWANCE);
 
     if (number != FESHANGUL_SETTLED && number != FESHANGUL_STOPPED) {
         print_refusal(number);
-        return;
+    } else {
+        print_verdict(reply);
+        print_shared(reply);
+        print_routes(table, reply);
     }
-    print_verdict(reply);
-    print_shared(reply);
-    print_routes(table, reply);
+    return number;
 }
 
 int main(void)
@@ -95,9 +97,9 @@ int main(void)
     put_arc(table, 3, 2, 3, 1000, RISK(3));
     put_arc(table, 4, 1, 2, 1000, RISK(4));
 
-    plan_and_print(table, sizeof table);
+    int planned = plan_and_print(table, sizeof table) == FESHANGUL_SETTLED;
 
     put_arc(table, 2, 0, 2, FESHANGUL_ARC_METRES_MAX + 1, RISK(2));
-    plan_and_print(table, sizeof table);
-    return 0;
+    int refused = feshangul_reason(plan_and_print(table, sizeof table)) == FESHANGUL_ARC_METRES_RANGE;
+    return planned && refused ? 0 : 1;
 }

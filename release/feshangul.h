@@ -49,7 +49,8 @@ extern "C" {
 
 /* ---- The planner ------------------------------------------------------------------------------------------ */
 
-/* Plans a pair of routes from `source` to `terminal`, and returns one of the numbers below.
+/* Plans a pair of routes from `source` to `terminal`, and returns one of the numbers below, with 256 times the arc's
+ * number added where it is about an arc.
  *
  * table, table_len   the span table; only read. NULL with 0 is an empty table.
  * reply, reply_len   where the reply record goes, at least 96 bytes, not overlapping the table. With 0 or 1 its
@@ -67,14 +68,14 @@ uint32_t feshangul_plan(const uint8_t *table, size_t table_len, uint8_t *reply, 
 /* ---- Numbers returned, and what to do on each --------------------------------------------------------------
  *
  * With 0 and 1 a reply is written. All others are refusals: nothing was planned and the reply buffer is as it was.
- * A fault of an arc comes as its number, 20 to 23, plus 256 times the number of the arc, so take every number apart
- * with these two. Of several faults the first is told, in the order in which they stand here, so mend it and ask again:
- * the lowest faulty arc is named, with the first of its faults. Take a reason that is not listed here as a refusal.
+ * A fault of an arc comes as its number, 20 to 23, plus 256 times the number of the arc: take a number apart with the
+ * two functions below. Of several faults the first is told, in the order in which they stand here, so mend it and ask
+ * again; of several faulty arcs the lowest, with the first of its faults. Take what is not listed here as a refusal.
  *
  * 9 and 11 have ended and are given to nothing else: 9 was for any fault of any arc, and 11 for a route of over
  * 62,000,000 m, and there is none. */
 
-/* Why: one of the numbers below. */
+/* Why: one of the numbers below, which is the number itself where it is about no arc. */
 static inline uint32_t feshangul_reason(uint32_t number) { return number % 256u; }
 
 /* Which arc, with a reason of 20 to 23: its record begins FESHANGUL_ARC_BYTES times this from the table's beginning. */
@@ -108,7 +109,7 @@ static inline uint32_t feshangul_faulty_arc(uint32_t number) { return number / 2
 /* The allowance is none, or too large. Give FESHANGUL_ALLOWANCE_MAX where all mains are meant. */
 #define FESHANGUL_ALLOWANCE_RANGE 8u
 
-/* The arc's tail or head is no node, 0 to FESHANGUL_NODE_MAX. Give its buildings numbers in that range; 255 is what
+/* The arc's tail or head is no node, 0 to FESHANGUL_NODE_MAX. Give its ends numbers in that range; 255 is what
  * feshangul_put_arc writes for a node that does not fit its byte. */
 #define FESHANGUL_ARC_NODE_RANGE 20u
 

@@ -1,4 +1,4 @@
-//! The cases that 01 works by hand, with what it says of each; and a few rows more.
+//! The cases that 01 works by hand, with what it or a later request says of each; and a few rows more.
 
 use crate::listing::{answer, answer_to_input, printed, ALLOWANCE_MAX, METRES_MAX, REACH_MAX, REPLY_BYTES};
 use crate::mesh::{from_paper, table_bytes, Arc, Case, Request};

@@ -1,4 +1,4 @@
-//! Document 01 read literally: every route is listed and ranked, every pair is judged, and the answer is read off.
+//! Document 01 and the requests read literally: every route is listed and ranked, every pair is judged, and the answer is read off.
 //! Nothing here is clever, so that it can be held against the document line by line.
 
 use crate::mesh::{arcs_of, arcs_on_paper, number, Arc, Case, Request, ARC_BYTES};

@@ -1,5 +1,5 @@
-//! The separate program: holds the planner to document 01 by listing every route and every pair. Its rules are that
-//! document's, read anew; it shares no code and no definition with the planner.
+//! The separate program: holds the planner to document 01, with the requests that have landed, by listing every route
+//! and every pair. Its rules are read anew from those; it shares no code and no definition with the planner.
 //!
 //!   compare listing                        holds the listing itself to the cases that 01 works by hand
 //!   compare calls COUNT SEED COMMAND..     compares those cases and COUNT random calls, through the driver COMMAND

@@ -98,11 +98,12 @@ def _refusal(mesh, request, number):
 
 
 def _refusal_for_arc(mesh, request, number):
-    """Says the fault of the arc that the number names, and holds it against the mesh on the way."""
-    arc, reason = number // rules.REASONS, number % rules.REASONS
-    found = rules.arc_fault(mesh.arcs[arc]) if arc < len(mesh.arcs) else None
-    _hold(found is not None and found[0] == reason, f"number {number}, where arc {arc} has no fault {reason}")
-    return Refusal(mesh, request, number, f"{_place(arc, mesh.arcs[arc])}: {found[1]}", arc)
+    """Says the fault of the arc that the number names, and holds the number against the mesh on the way."""
+    arc, reason = divmod(number, rules.REASONS)
+    faults = [rules.arc_fault(record) for record in mesh.arcs[: arc + 1]]
+    named = faults.pop() if arc < len(mesh.arcs) else None
+    _hold(named is not None and named[0] == reason and not any(faults), f"number {number}, which is not that of its arcs")
+    return Refusal(mesh, request, number, f"{_place(arc, mesh.arcs[arc])}: {named[1]}", arc)
 
 
 def _place(arc, record):

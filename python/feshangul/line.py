@@ -50,7 +50,8 @@ class Line:
             raise self.expected(f'"{mark}"')
 
     def number(self, what, most, true_range=None):
-        """A whole number of at most `most`, as wide as its field; the message tells the range in which it makes sense."""
+        """A whole number of at most `most`, as wide as its field; the message tells the range in which it makes sense, where
+        `what` does not say it."""
         found = _DIGITS.match(self.text, self.at)
         number = _whole(found[0], most) if found else None
         if number is None:

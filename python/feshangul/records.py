@@ -32,8 +32,8 @@ def put_table(arcs):
 def _put_arc(number, a):
     try:
         return _ARC.pack(a.tail, a.head, a.spare, a.metres, risks_field(a.risks))
-    except struct.error:
-        ranges = f"nodes are {rules.NODE_RANGE}, lengths {rules.METRES_RANGE}, risks {rules.RISK_RANGE}"
+    except (struct.error, ValueError):  # the latter for a negative risk
+        ranges = f"nodes are {rules.NODE_RANGE}, lengths {rules.METRES_RANGE}, risks {rules.RISK_RANGE}, spare bytes 0"
         raise InputFault(f"arc {number} has a number that no record can hold: {ranges}") from None
 
 

@@ -7,7 +7,7 @@ ARC_METRES_MAX = 2_000_000
 REACH_MAX = 62_000_000  # 31 arcs of 2,000,000 metres: no route is longer
 ALLOWANCE_MAX = 1_000_000
 
-# What makes sense in each field, as messages say it; a record holds more.
+# What makes sense in each field, as messages say it; most fields of a record hold more.
 NODE_RANGE = f"0 to {NODES - 1}"
 RISK_RANGE = f"0 to {RISKS - 1}"
 METRES_RANGE = f"0 to {ARC_METRES_MAX:,} m"

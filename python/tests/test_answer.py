@@ -203,11 +203,19 @@ class Refusals(unittest.TestCase):
                 self.assert_refused(number, "a number that this version does not know", A, A1)
 
     def test_a_number_for_an_arc_without_that_fault_is_noticed(self):
-        mesh = Mesh((Arc(0, 1, 2_000_001, frozenset()), Arc(0, 1, 5, frozenset())))
-        for number, arc in ((21, 0), (23, 0), (278, 1), (534, 2), (2**32 - 234, 2**24 - 1)):
+        sound, spare, long = Arc(0, 1, 5, frozenset()), Arc(0, 1, 5, frozenset(), 1), Arc(0, 1, 2_000_001, frozenset(), 1)
+        for number, *arcs in (
+            (21, long),  # another fault
+            (23, long),  # not the first fault
+            (278, long, sound),  # a sound arc
+            (278, spare, long),  # not the lowest arc
+            (534, sound, long),  # no arc
+            (2**32 - 234, long),
+            (22,),
+        ):
             with self.subTest(number), planner_that_replies(number), self.assertRaises(LibraryFault) as raised:
-                answer.plan(mesh, A1)
-            self.assertIn(f"number {number}, where arc {arc} has no fault {number % 256}", str(raised.exception))
+                answer.plan(Mesh(tuple(arcs)), A1)
+            self.assertIn(f"number {number}, which is not that of its arcs", str(raised.exception))
 
 
 class Library(unittest.TestCase):
@@ -288,13 +296,15 @@ class Package(unittest.TestCase):
             Arc(0, -1, 5, frozenset()),
             Arc(0, 1, 2**32, frozenset()),
             Arc(0, 1, 5, frozenset({64})),
+            Arc(0, 1, 5, frozenset({-1})),
             Arc(0, 1, 5, frozenset(), 2**16),
         ):
             with self.subTest(faulty), self.assertRaises(feshangul.InputFault) as raised:
                 feshangul.plan(feshangul.Mesh((*A.arcs, faulty)), A1)
             self.assertEqual(
                 str(raised.exception),
-                "arc 5 has a number that no record can hold: nodes are 0 to 31, lengths 0 to 2,000,000 m, risks 0 to 63",
+                "arc 5 has a number that no record can hold: nodes are 0 to 31, lengths 0 to 2,000,000 m, risks 0 to 63, "
+                "spare bytes 0",
             )
 
     def test_an_input_fault_is_a_fault(self):

@@ -161,7 +161,7 @@ module _ (table : List ℕ) (q : Request) (size : ℕ) where
   pub arc-named : NoneBefore table q size 9 → (n i : ℕ) → 20 ≤ n → n ≤ 23 → (answer table q size .number ≡ n + 256 * i) ↔ LowestFault (arcsOf table) i n
   arc-named below n i low high = (
     λ e. names-lowest table q size (names (omega arith)) i n (omega arith) e,
-    λ l. numbered (n + 256 * i) (omega arith) .1 (subst (Told table q size) (omega (arith, l .first-fault)) (told-faulty table q size below (lowest-first (arcsOf table) (omega arith) l))),
+    λ l. numbered (n + 256 * i) (omega arith) .1 (subst (Told table q size) (omega (arith, l .first-fault)) (told-faulty table q size below (lowest-first (arcsOf table) l))),
   )
 
   -- no number is 9, or past 10 without an arc

@@ -15,7 +15,7 @@ use Rattle.problem.specs.declared.Fault.the-variants.{Sound, Node, Equal
 use Rattle.problem.specs.Table.{lastNode, mostArcMetres, SoundArc, HasFault, faultOf, faultNumber, arcNumber, arcsNumber}
 use Rattle.problem.specs.Routes.{arcAt}
 use Rattle.problem.specs.Calls.{LowestFault}
-use Rattle.problem.proofs.ToldLaws.{FirstAt, told-at, told-none, none-on}
+use Rattle.problem.proofs.ToldLaws.{FirstAt, first-told, none-told, none-on}
 
 -- ---- of one arc
 
@@ -133,27 +133,22 @@ none-sound a none =
     let low-tail : lastNode < a .tail → ⊥ = λ h. none _ (HasFault.tail-too-high h) in
     let low-head : lastNode < a .head → ⊥ = λ h. none _ (HasFault.head-too-high h) in
     let short : mostArcMetres < a .metres → ⊥ = λ h. none _ (HasFault.too-long h) in
+    let unused : 0 < a .spare → ⊥ = λ h. none _ (HasFault.spare-used (λ z. omega arith)) in
     record {
       tail-node = omega arith;
       head-node = omega arith;
       ends-differ = λ h. none _ (HasFault.ends-equal h);
       metres-range = omega arith;
-      spare-zero = unused (eqb (a .spare) 0) refl;
+      spare-zero = omega arith;
     }
-  where
-    unused : (b : Bool) → eqb (a .spare) 0 ≡ b → a .spare ≡ 0
-    unused true e = eqb-true _ _ e
-    unused false e = absurd (none _ (HasFault.spare-used (eqb-false _ _ e)))
 
 pub sound-arc : (a : Arc) → arcNumber a ≡ 0 → SoundArc a
 sound-arc a z = none-sound a (λ f h. omega (arith, fault-first a h .0))
 
-pub arc-sound : (a : Arc) → SoundArc a → arcNumber a ≡ 0
-arc-sound a s = go (eqb (arcNumber a) 0) refl
-  where
-    go : (b : Bool) → eqb (arcNumber a) 0 ≡ b → arcNumber a ≡ 0
-    go true e = eqb-true _ _ e
-    go false e = absurd (sound-none s (fault-had a (eqb-false _ _ e)))
+arc-sound : (a : Arc) → SoundArc a → arcNumber a ≡ 0
+arc-sound a s =
+    let no-number : 0 < arcNumber a → ⊥ = λ h. sound-none s (fault-had a (λ z. omega arith)) in
+    omega arith
 
 -- ---- of several arcs
 
@@ -165,17 +160,19 @@ module _ (arcs : List Arc) where
   -- the number told of it, and that of arcs all sound
   pub faulty-number : {k : ℕ} → Faulty k → arcsNumber arcs ≡ arcNumber (arcAt arcs k) + 256 * k
   unfolding arcsNumber
-  faulty-number f = told-at arcNumber (arcAt [] 0) f
+  faulty-number f = first-told arcNumber (arcAt [] 0) f
 
   pub faultless-number : ((j : ℕ) → j < length arcs → arcNumber (arcAt arcs j) ≡ 0) → arcsNumber arcs ≡ 0
   unfolding arcsNumber
-  faultless-number = told-none arcNumber (arcAt [] 0) arcs
+  faultless-number = none-told arcNumber (arcAt [] 0) arcs
 
   pub faultless-on : {k : ℕ} → ((j : ℕ) → j < k → arcNumber (arcAt arcs j) ≡ 0) → arcNumber (arcAt arcs k) ≡ 0 → (j : ℕ) → j < k + 1 → arcNumber (arcAt arcs j) ≡ 0
   faultless-on = none-on arcNumber (arcAt [] 0) arcs
 
   pub first-lowest : {k : ℕ} → Faulty k → LowestFault arcs k (arcNumber (arcAt arcs k))
-  first-lowest f = record { in-table = f .inside; first-fault = refl; sound-below = λ j b. sound-arc _ (f .none-before j b) }
+  first-lowest {k} f =
+      let no-fault = f .has in
+      record { in-table = f .inside; is-fault = omega arith; first-fault = refl; sound-below = λ j b. sound-arc _ (f .none-before j b) }
 
-  pub lowest-first : {k n : ℕ} → 0 < n → LowestFault arcs k n → Faulty k
-  lowest-first some l = record { inside = l .in-table; has = λ z. omega (arith, l .first-fault); none-before = λ j b. arc-sound _ (l .sound-below j b) }
+  pub lowest-first : {k n : ℕ} → LowestFault arcs k n → Faulty k
+  lowest-first l = record { inside = l .in-table; has = λ z. omega (arith, l .is-fault, l .first-fault); none-before = λ j b. arc-sound _ (l .sound-below j b) }

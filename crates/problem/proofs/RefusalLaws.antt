@@ -18,11 +18,11 @@ use Rattle.problem.specs.Table.{lastNode, mostReach, mostAllowance, most
 use Rattle.problem.specs.Routes.{arcAt}
 use Rattle.problem.specs.Reply.{firstNumber, sizeChecks, requestChecks, arcChecks, refusal, Passed}
 use Rattle.problem.specs.Calls.{RouteOf, Applies, Told, LowestFault}
-use Rattle.problem.proofs.ToldLaws.{Tells, told}
+use Rattle.problem.proofs.ToldLaws.{First, first}
 use Rattle.problem.proofs.FaultLaws.{Faulty, fault-had, fault-first, fault-range, sound-none, faulty-number, first-lowest}
 use Rattle.problem.proofs.TableLaws.{arcs-length, sound-at}
 
--- the numbers that there are: none past 10 but from 20 on those of arcs, of which there are at most 128; and 9 is none
+-- where the numbers that are returned lie: none is 9, or of 11 to 19, or past the last fault of arc 127
 abbrev pub Known : ℕ → Type 0
 Known n = ((n ≤ 10) × (n ≡ 9 → ⊥)) ⊎ ((20 ≤ n) × (n ≤ 23 + 256 * 127))
 
@@ -102,19 +102,15 @@ module _ (table : List ℕ) (q : Request) (size : ℕ) where
         turn = 9;
         applies = Applies.arc-faulty k (faultOf (arcAt arcs k)) (f .inside) (fault-had (arcAt arcs k) (f .has));
         none-before = below;
-        none-smaller = λ i l a. smaller refl (turn-of a) l;
+        none-smaller = smaller;
       }
     where
-      other-arc : (j : ℕ) (g : Fault) (b : Bool) → eqb j k ≡ b → HasFault (arcAt arcs j) g → faultNumber g + 256 * j < arcNumber (arcAt arcs k) + 256 * k → ⊥
-      other-arc j g true e h l = omega (arith, eqb-true j k e, ap (λ (x : ℕ). arcNumber (arcAt arcs x)) (eqb-true j k e), fault-first (arcAt arcs j) h .1)
-      other-arc j g false e h l =
+      smaller : (i : ℕ) → i < arcNumber (arcAt arcs k) + 256 * k → Applies table q size 9 i → ⊥
+      smaller i l (Applies.arc-faulty j g b h) =
           let first = fault-first (arcAt arcs j) h in
-          let lower : j < k = omega (arith, eqb-false j k e, fault-range (faultOf (arcAt arcs k))) in
-          omega (arith, first .0, f .none-before j lower)
-
-      smaller : {t i : ℕ} → t ≡ 9 → Turn t i → i < arcNumber (arcAt arcs k) + 256 * k → ⊥
-      smaller nine (own n h) l = h .2 nine
-      smaller nine (of-arc j g b h) l = other-arc j g (eqb j k) refl h l
+          let not-lower : j < k → ⊥ = λ lower. omega (arith, first .0, f .none-before j lower) in
+          let same : j ≡ k = omega (arith, fault-range (faultOf (arcAt arcs k))) in
+          omega (arith, first .1, ap (λ (x : ℕ). arcNumber (arcAt arcs x)) same)
 
   -- which arc a number past 10 tells
   pub record Names (n : ℕ) : Type 0 where
@@ -132,16 +128,18 @@ module _ (table : List ℕ) (q : Request) (size : ℕ) where
           let not-less : arcNumber (arcAt arcs k) < faultNumber f → ⊥ = λ l. none (arcNumber (arcAt arcs k) + 256 * k) (omega arith) (at k b (λ z. omega (arith, first .0))) in
           record {
             arc = k;
-            faulty = record { inside = b; has = λ z. omega (arith, first .0); none-before = λ j l. sound-below j l (eqb (arcNumber (arcAt arcs j)) 0) refl };
+            faulty = record { inside = b; has = λ z. omega (arith, first .0); none-before = sound-below };
             number-is = omega (arith, first .1);
           }
         where
           at : (j : ℕ) → j < length arcs → (arcNumber (arcAt arcs j) ≡ 0 → ⊥) → Applies table q size 9 (arcNumber (arcAt arcs j) + 256 * j)
           at j l some = Applies.arc-faulty j (faultOf (arcAt arcs j)) l (fault-had (arcAt arcs j) some)
 
-          sound-below : (j : ℕ) → j < k → (s : Bool) → eqb (arcNumber (arcAt arcs j)) 0 ≡ s → arcNumber (arcAt arcs j) ≡ 0
-          sound-below j l true e = eqb-true _ _ e
-          sound-below j l false e = absurd (none (arcNumber (arcAt arcs j) + 256 * j) (omega (arith, fault-range (faultOf (arcAt arcs j)))) (at j (omega arith) (eqb-false _ _ e)))
+          sound-below : (j : ℕ) → j < k → arcNumber (arcAt arcs j) ≡ 0
+          sound-below j l =
+              let low = fault-range (faultOf (arcAt arcs j)) in
+              let no-number : 0 < arcNumber (arcAt arcs j) → ⊥ = λ h. none (arcNumber (arcAt arcs j) + 256 * j) (omega arith) (at j (omega arith) (λ z. omega arith)) in
+              omega arith
 
   -- taken apart, it says that arc's number and that of its first fault
   pub names-lowest : {m : ℕ} → Names m → (i n : ℕ) → n < 256 → m ≡ n + 256 * i → LowestFault arcs i n
@@ -164,11 +162,10 @@ module _ (table : List ℕ) (q : Request) (size : ℕ) where
 
   -- one turn more that comes to no number
   none-next : (m : ℕ) → NoneBefore m → ((i : ℕ) → Applies table q size m i → ⊥) → NoneBefore (suc m)
-  none-next m below fails t i l a = go (eqb t m) refl
-    where
-      go : (b : Bool) → eqb t m ≡ b → ⊥
-      go true e = fails i (subst (λ (s : ℕ). Applies table q size s i) (eqb-true t m e) a)
-      go false e = below t i (omega (arith, eqb-false t m e)) a
+  none-next m below fails t i l a =
+      let not-before : t < m → ⊥ = λ h. below t i h a in
+      let same : t ≡ m = omega arith in
+      fails i (subst (λ (s : ℕ). Applies table q size s i) same a)
 
   -- one row of the order: its number is told where its test holds; else what follows it decides
   row : {n next : ℕ} (m : ℕ) → (m ≡ 9 → ⊥) → (test : Bool) → NoneBefore m → (test ≡ true → Applies table q size m m) → (test ≡ false → (i : ℕ) → Applies table q size m i → ⊥)
@@ -179,11 +176,11 @@ module _ (table : List ℕ) (q : Request) (size : ℕ) where
   arcs-row : {n : ℕ} (b : Bool) → allSound arcs ≡ b → NoneBefore 9 → (if not b then arcsNumber arcs else 0) ≡ suc n → Told table q size (suc n)
   unfolding arcsNumber
   arcs-row true s below e = absurd (omega arith)
-  arcs-row {n} false s below e = go (told arcNumber (arcAt [] 0) arcs)
+  arcs-row {n} false s below e = go (first arcNumber (arcAt [] 0) 0 arcs)
     where
-      go : Tells arcNumber (arcAt [] 0) 0 arcs → Told table q size (suc n)
-      go (Tells.none f z) = absurd (omega (arith, sym z ∙ e))
-      go (Tells.first k f is) = subst (Told table q size) (sym (faulty-number arcs f) ∙ e) (told-faulty below f)
+      go : First arcNumber (arcAt [] 0) 0 arcs → Told table q size (suc n)
+      go (First.none f z) = absurd (omega (arith, sym z ∙ e))
+      go (First.one k f is) = subst (Told table q size) (sym (faulty-number arcs f) ∙ e) (told-faulty below f)
 
   -- a refusal by a check is that of the first whose test holds
   pub refusal-told : (n : ℕ) → refusal table q size ≡ suc n → Told table q size (suc n)

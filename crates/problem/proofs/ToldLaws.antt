@@ -18,49 +18,46 @@ module _ {A : Type 0} (number : A → ℕ) (other : A) where
     pub none-before : (j : ℕ) → j < k → number (getD l j other) ≡ 0
 
   -- none has a number, or one is the first and is told
-  pub data Tells (i : ℕ) (l : List A) : Type 0 where
-    none : ((j : ℕ) → j < length l → number (getD l j other) ≡ 0) → firstTold number i l ≡ 0 → Tells i l
-    first : (k : ℕ) → FirstAt l k → firstTold number i l ≡ number (getD l k other) + 256 * (i + k) → Tells i l
+  pub data First (i : ℕ) (l : List A) : Type 0 where
+    none : ((j : ℕ) → j < length l → number (getD l j other) ≡ 0) → firstTold number i l ≡ 0 → First i l
+    one : (k : ℕ) → FirstAt l k → firstTold number i l ≡ number (getD l k other) + 256 * (i + k) → First i l
 
-  tells : (i : ℕ) (l : List A) → Tells i l
+  pub first : (i : ℕ) (l : List A) → First i l
   unfolding firstTold
-  tells i [] = none (λ j b. absurd (not-suc-le-zero b)) refl
-  tells i (a ∷ l) = go (eqb (number a) 0) refl (tells (suc i) l)
+  first i [] = none (λ j b. absurd (not-suc-le-zero b)) refl
+  first i (a ∷ l) = go (eqb (number a) 0) refl (first (suc i) l)
     where
-      go : (b : Bool) → eqb (number a) 0 ≡ b → Tells (suc i) l → Tells i (a ∷ l)
-      go false e rest = first 0 (record { inside = omega arith; has = eqb-false _ _ e; none-before = λ j b. absurd (not-suc-le-zero b) }) (rw e (omega arith))
+      go : (b : Bool) → eqb (number a) 0 ≡ b → First (suc i) l → First i (a ∷ l)
+      go false e rest = one 0 (record { inside = omega arith; has = eqb-false _ _ e; none-before = λ j b. absurd (not-suc-le-zero b) }) (rw e (omega arith))
       go true e (none f z) = none all (rw e z)
         where
           all : (j : ℕ) → j < suc (length l) → number (getD (a ∷ l) j other) ≡ 0
           all zero b = eqb-true _ _ e
           all (suc j) b = f j (le-of-suc-le-suc b)
-      go true e (first k f is) = first (suc k) (record { inside = suc-le-suc (f .inside); has = f .has; none-before = before }) (rw e (omega (arith, is)))
+      go true e (one k f is) = one (suc k) (record { inside = suc-le-suc (f .inside); has = f .has; none-before = before }) (rw e (omega (arith, is)))
         where
           before : (j : ℕ) → j < suc k → number (getD (a ∷ l) j other) ≡ 0
           before zero b = eqb-true _ _ e
           before (suc j) b = f .none-before j (le-of-suc-le-suc b)
 
-  pub told : (l : List A) → Tells 0 l
-  told l = tells 0 l
-
   -- there is but one first
-  pub told-at : {l : List A} {k : ℕ} → FirstAt l k → firstTold number 0 l ≡ number (getD l k other) + 256 * k
-  told-at {l} {k} f = go (told l)
+  pub first-told : {l : List A} {k : ℕ} → FirstAt l k → firstTold number 0 l ≡ number (getD l k other) + 256 * k
+  first-told {l} {k} f = go (first 0 l)
     where
-      go : Tells 0 l → firstTold number 0 l ≡ number (getD l k other) + 256 * k
-      go (Tells.none all z) = absurd (f .has (all k (f .inside)))
-      go (Tells.first j g is) =
+      go : First 0 l → firstTold number 0 l ≡ number (getD l k other) + 256 * k
+      go (First.none all z) = absurd (f .has (all k (f .inside)))
+      go (First.one j g is) =
           let not-less : j < k → ⊥ = λ b. g .has (f .none-before j b) in
           let not-more : k < j → ⊥ = λ b. f .has (g .none-before k b) in
           let same : j ≡ k = omega arith in
           omega (arith, is, ap (λ (x : ℕ). number (getD l x other)) same)
 
-  pub told-none : (l : List A) → ((j : ℕ) → j < length l → number (getD l j other) ≡ 0) → firstTold number 0 l ≡ 0
-  told-none l all = go (told l)
+  pub none-told : (l : List A) → ((j : ℕ) → j < length l → number (getD l j other) ≡ 0) → firstTold number 0 l ≡ 0
+  none-told l all = go (first 0 l)
     where
-      go : Tells 0 l → firstTold number 0 l ≡ 0
-      go (Tells.none f z) = z
-      go (Tells.first k f is) = absurd (f .has (all k (f .inside)))
+      go : First 0 l → firstTold number 0 l ≡ 0
+      go (First.none f z) = z
+      go (First.one k f is) = absurd (f .has (all k (f .inside)))
 
   -- one more that has none
   pub none-on : (l : List A) {k : ℕ} → ((j : ℕ) → j < k → number (getD l j other) ≡ 0) → number (getD l k other) ≡ 0 → (j : ℕ) → j < k + 1 → number (getD l j other) ≡ 0
@@ -72,8 +69,8 @@ module _ {A : Type 0} (number : A → ℕ) (other : A) where
 
   -- where nothing is told, none has a number
   pub untold : (l : List A) → firstTold number 0 l ≡ 0 → (j : ℕ) → j < length l → number (getD l j other) ≡ 0
-  untold l z = go (told l)
+  untold l z = go (first 0 l)
     where
-      go : Tells 0 l → (j : ℕ) → j < length l → number (getD l j other) ≡ 0
-      go (Tells.none f e) = f
-      go (Tells.first k f is) = absurd (f .has (omega arith))
+      go : First 0 l → (j : ℕ) → j < length l → number (getD l j other) ≡ 0
+      go (First.none f e) = f
+      go (First.one k f is) = absurd (f .has (omega arith))

@@ -56,9 +56,10 @@ pub record Told (table : List ℕ) (q : Request) (size number : ℕ) : Type 0 wh
   pub none-before : (t i : ℕ) → t < turn → Applies table q size t i → ⊥
   pub none-smaller : (i : ℕ) → i < number → Applies table q size turn i → ⊥
 
--- arc i has the fault of number n as its first, and every arc below i is sound
+-- arc i has a fault, the first of which is that of number n, and every arc below i is sound
 pub record LowestFault (arcs : List Arc) (i n : ℕ) : Type 0 where
   pub in-table : i < length arcs
+  pub is-fault : 0 < n
   pub first-fault : arcNumber (arcAt arcs i) ≡ n
   pub sound-below : (j : ℕ) → j < i → SoundArc (arcAt arcs j)
 

@@ -232,7 +232,7 @@ pub fault-by-fault
 unfolding opened
 fault-by-fault = refl
 
--- of several faulty arcs the lowest is told, whatever its fault: arc 1, whose spare bytes are used, before arc 2, which has a higher node; arc 0 before arc 1;
+-- of several faulty arcs the lowest is told, whatever its fault: arc 1, whose spare bytes are used, before arc 2, which has a node over 31; arc 0 before arc 1;
 -- arc 21, a metre too long; and the last of 128
 pub lowest-told
     : number (arc 0 1 5 0 ++ 0 ∷ 1 ∷ 1 ∷ replicate 13 0 ++ arc 32 1 5 0) 0 1 100 1 96

@@ -1,4 +1,4 @@
-// The kinds of data that the definitions and the code have in common, and the definitions' limits as the code has them (specs/Table.antt).
+// The kinds of data that the definitions and the code have in common, and the definitions' limits and fault numbers as the code has them (specs/Table.antt).
 // Everything else of this crate is definitions (specs/) and what is true of them (proofs/).
 ghost use mathlib.Core.Path.{_≡_};
 ghost use Rattle.problem.specs.Table.{faultNumber};
@@ -49,7 +49,7 @@ pub enum Fault {
     Spare,
 }
 
-// The number of each; 256 times the arc's number is added where it is returned.
+// The number of each. It is returned with 256 times the arc's number added.
 pub fn fault_number(f: Fault) -> u32
     ensures { λ r. ⌜ r ≡ faultNumber f ⌝ }
 {
