@@ -11,7 +11,7 @@ use Rattle.problem.specs.Opened.{opened}
 use Rattle.problem.specs.Table.{nodes, mostArcs, mostShared, mostArcMetres, mostReach, mostInTable, Bytes, bytesOf, arcOf, arcsOf, faultOf}
 use Rattle.problem.specs.Routes.{mesh, Way, paths, FreeWay, freeLengths, shortest}
 use Rattle.problem.specs.Reply.{request, Answer, answer, refuse, sharedIn, floorIn, rankedIn, totalIn, sharedRisksIn, mainIn, standbyIn}
-use Rattle.problem.specs.Calls.{WayOf, allowing}
+use Rattle.problem.specs.Calls.{WayOf, allowing, LowestFault}
 use Rattle.problem.specs.Printed.{kilometres, text, digits, output}
 
 -- an arc as 01 prints it: tail, head, metres, and the field of its risks
@@ -181,6 +181,10 @@ free-round = record { way = looped; free = refl }
 pub none-past : Way (arcsOf meshC) 0 1 (2 ∷ 0 ∷ []) → ⊥
 unfolding opened
 none-past (Way.over b t w) = omega arith
+
+-- no sound arc is the lowest faulty one
+pub none-lowest : LowestFault (arcsOf meshC) 0 0 → ⊥
+none-lowest l = omega (arith, l .is-fault)
 
 -- the paths of mesh A in order of arc numbers; the reach is not asked
 pub paths-A : paths (mesh (arcsOf meshA) 0 3 0) ≡ (0 ∷ 1 ∷ []) ∷ (0 ∷ 4 ∷ 3 ∷ []) ∷ (2 ∷ 3 ∷ []) ∷ []
