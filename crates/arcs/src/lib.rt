@@ -57,6 +57,7 @@ pub fn fault(a: Arc) -> Fault
 }
 
 // The number for the lowest arc of the table that has a fault: that of its first fault, and 256 times the arc's number. 0 where none has.
+// Asked for once the table is known to be no longer than the largest, so that the number fits.
 pub fn refusal(table: &[u8]) -> u32
     requires { ⌜ length (now table) ≤ mostTableBytes ⌝ }
     ensures { λ r. ⌜ r ≡ arcsNumber (arcsOf (now (table .entry))) ⌝ }

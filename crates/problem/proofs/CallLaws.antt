@@ -1,4 +1,4 @@
--- How calls end: the verdict, which number goes with which end, and the order of the checks. Assumes nothing.
+-- How calls end: the verdict, which number goes with which end, the order of the checks, and the arc that a number names. Assumes nothing.
 use mathlib.Core.Path.{_≡_, refl, sym, ap, subst}
 use mathlib.Core.Bool.{Bool, true, false}
 use mathlib.Core.Logic.{inl, _↔_}
@@ -20,7 +20,7 @@ use Rattle.problem.proofs.PathLaws.{sound-heads}
 use Rattle.problem.proofs.RankingLaws.{ranking-in, ranking-out}
 use Rattle.problem.proofs.CandidateLaws.{every-some}
 use Rattle.problem.proofs.ReplyLaws.{answered, Outcome, outcome, passed-refusal, ranked-step}
-use Rattle.problem.proofs.RefusalLaws.{NoneBefore, Names, Known, own-turn, told-two, told-own, told-same, told-faulty, told-names, names-lowest, told-known, passed-ten, passed-before}
+use Rattle.problem.proofs.RefusalLaws.{NoneBefore, Known, own-turn, told-two, told-own, told-same, told-faulty, told-lowest, told-known, passed-ten, passed-before}
 
 -- ---- the verdict
 
@@ -150,17 +150,17 @@ module _ (table : List ℕ) (q : Request) (size : ℕ) where
 
   -- ---- the number of an arc
 
-  -- a number past 10 names an arc of the table
-  names : 10 < answer table q size .number → Names table q size (answer table q size .number)
-  names past = told-names table q size past (refused-told (omega arith))
+  -- a number past 10 is told of an arc of the table
+  lowest : 10 < answer table q size .number → (i n : ℕ) → n < 256 → answer table q size .number ≡ n + 256 * i → LowestFault (arcsOf table) i n
+  lowest past = told-lowest table q size past (refused-told (omega arith))
 
   pub arc-apart : 10 < answer table q size .number → LowestFault (arcsOf table) (answer table q size .number / 256) (answer table q size .number % 256)
-  arc-apart past = names-lowest table q size (names past) (answer table q size .number / 256) (answer table q size .number % 256) (omega arith) (omega arith)
+  arc-apart past = lowest past (answer table q size .number / 256) (answer table q size .number % 256) (omega arith) (omega arith)
 
   -- where no turn before that of the arcs comes to a number, which arc it names, and which fault
   pub arc-named : NoneBefore table q size 9 → (n i : ℕ) → 20 ≤ n → n ≤ 23 → (answer table q size .number ≡ n + 256 * i) ↔ LowestFault (arcsOf table) i n
   arc-named below n i low high = (
-    λ e. names-lowest table q size (names (omega arith)) i n (omega arith) e,
+    λ e. lowest (omega arith) i n (omega arith) e,
     λ l. numbered (n + 256 * i) (omega arith) .1 (subst (Told table q size) (omega (arith, l .first-fault)) (told-faulty table q size below (lowest-first (arcsOf table) l))),
   )
 

@@ -83,7 +83,12 @@ module _ (a : Arc) where
 
 -- no two faults have the same number
 fault-of : ℕ → Fault
-fault-of n = if eqb n 20 then Node else (if eqb n 21 then EqualEnds else (if eqb n 22 then Length else (if eqb n 23 then Spare else Sound)))
+fault-of n =
+    if eqb n (faultNumber Node) then Node
+    else (if eqb n (faultNumber EqualEnds) then EqualEnds
+    else (if eqb n (faultNumber Length) then Length
+    else (if eqb n (faultNumber Spare) then Spare
+    else Sound)))
 
 of-number : (f : Fault) → fault-of (faultNumber f) ≡ f
 unfolding fault-of
@@ -168,11 +173,6 @@ module _ (arcs : List Arc) where
 
   pub faultless-on : {k : ℕ} → ((j : ℕ) → j < k → arcNumber (arcAt arcs j) ≡ 0) → arcNumber (arcAt arcs k) ≡ 0 → (j : ℕ) → j < k + 1 → arcNumber (arcAt arcs j) ≡ 0
   faultless-on = none-on arcNumber (arcAt [] 0) arcs
-
-  pub first-lowest : {k : ℕ} → Faulty k → LowestFault arcs k (arcNumber (arcAt arcs k))
-  first-lowest {k} f =
-      let no-fault = f .has in
-      record { in-table = f .inside; is-fault = omega arith; first-fault = refl; sound-below = λ j b. sound-arc _ (f .none-before j b) }
 
   pub lowest-first : {k n : ℕ} → LowestFault arcs k n → Faulty k
   lowest-first l = record { inside = l .in-table; has = λ z. omega (arith, l .is-fault, l .first-fault); none-before = λ j b. arc-sound _ (l .sound-below j b) }

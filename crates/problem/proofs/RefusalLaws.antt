@@ -19,7 +19,7 @@ use Rattle.problem.specs.Routes.{arcAt}
 use Rattle.problem.specs.Reply.{firstNumber, sizeChecks, requestChecks, arcChecks, refusal, Passed}
 use Rattle.problem.specs.Calls.{RouteOf, Applies, Told, LowestFault}
 use Rattle.problem.proofs.ToldLaws.{First, first}
-use Rattle.problem.proofs.FaultLaws.{Faulty, fault-had, fault-first, fault-range, sound-none, faulty-number, first-lowest}
+use Rattle.problem.proofs.FaultLaws.{Faulty, fault-had, fault-first, fault-range, sound-none, sound-arc, faulty-number}
 use Rattle.problem.proofs.TableLaws.{arcs-length, sound-at}
 
 -- where the numbers that are returned lie: none is 9, or of 11 to 19, or past the last fault of arc 127
@@ -112,42 +112,31 @@ module _ (table : List ℕ) (q : Request) (size : ℕ) where
           let same : j ≡ k = omega (arith, fault-range (faultOf (arcAt arcs k))) in
           omega (arith, first .1, ap (λ (x : ℕ). arcNumber (arcAt arcs x)) same)
 
-  -- which arc a number past 10 tells
-  pub record Names (n : ℕ) : Type 0 where
-    pub arc : ℕ
-    pub faulty : Faulty arcs arc
-    pub number-is : n ≡ arcNumber (arcAt arcs arc) + 256 * arc
-
-  pub told-names : {n : ℕ} → 10 < n → Told table q size n → Names n
-  told-names past told = go past (turn-of (told .applies)) (told .none-smaller)
+  -- a number past 10 that is told, taken apart, says the lowest faulty arc and its first fault
+  pub told-lowest : {m : ℕ} → 10 < m → Told table q size m → (i n : ℕ) → n < 256 → m ≡ n + 256 * i → LowestFault arcs i n
+  told-lowest past told i n low e = go past (turn-of (told .applies)) (told .none-smaller) e
     where
-      go : {t n : ℕ} → 10 < n → Turn t n → ((i : ℕ) → i < n → Applies table q size t i → ⊥) → Names n
-      go past (own n h) none = absurd (omega (arith, h .1))
-      go past (of-arc k f b h) none =
+      lowest : (k : ℕ) (f : Fault) → k < length arcs → HasFault (arcAt arcs k) f → ((j : ℕ) → j < faultNumber f + 256 * k → Applies table q size 9 j → ⊥) → LowestFault arcs k (faultNumber f)
+      lowest k f b h none =
           let first = fault-first (arcAt arcs k) h in
           let not-less : arcNumber (arcAt arcs k) < faultNumber f → ⊥ = λ l. none (arcNumber (arcAt arcs k) + 256 * k) (omega arith) (at k b (λ z. omega (arith, first .0))) in
-          record {
-            arc = k;
-            faulty = record { inside = b; has = λ z. omega (arith, first .0); none-before = sound-below };
-            number-is = omega (arith, first .1);
-          }
+          record { in-table = b; is-fault = omega (arith, first); first-fault = omega (arith, first .1); sound-below = λ j l. sound-arc _ (sound-below j l) }
         where
           at : (j : ℕ) → j < length arcs → (arcNumber (arcAt arcs j) ≡ 0 → ⊥) → Applies table q size 9 (arcNumber (arcAt arcs j) + 256 * j)
           at j l some = Applies.arc-faulty j (faultOf (arcAt arcs j)) l (fault-had (arcAt arcs j) some)
 
           sound-below : (j : ℕ) → j < k → arcNumber (arcAt arcs j) ≡ 0
           sound-below j l =
-              let low = fault-range (faultOf (arcAt arcs j)) in
-              let no-number : 0 < arcNumber (arcAt arcs j) → ⊥ = λ h. none (arcNumber (arcAt arcs j) + 256 * j) (omega arith) (at j (omega arith) (λ z. omega arith)) in
+              let range = fault-range (faultOf (arcAt arcs j)) in
+              let no-number : 0 < arcNumber (arcAt arcs j) → ⊥ = λ some. none (arcNumber (arcAt arcs j) + 256 * j) (omega arith) (at j (omega arith) (λ z. omega arith)) in
               omega arith
 
-  -- taken apart, it says that arc's number and that of its first fault
-  pub names-lowest : {m : ℕ} → Names m → (i n : ℕ) → n < 256 → m ≡ n + 256 * i → LowestFault arcs i n
-  names-lowest names i n low e =
-      let range = fault-range (faultOf (arcAt arcs (names .arc))) in
-      let arc-is : names .arc ≡ i = omega (arith, names .number-is, e, range) in
-      let fault-is : arcNumber (arcAt arcs (names .arc)) ≡ n = omega (arith, names .number-is, e, range) in
-      subst (λ (k : ℕ). LowestFault arcs k n) arc-is (subst (LowestFault arcs (names .arc)) fault-is (first-lowest arcs (names .faulty)))
+      go : {t m : ℕ} → 10 < m → Turn t m → ((j : ℕ) → j < m → Applies table q size t j → ⊥) → m ≡ n + 256 * i → LowestFault arcs i n
+      go past (own m h) none e = absurd (omega (arith, h .1))
+      go past (of-arc k f b h) none e =
+          let arc-is : k ≡ i = omega (arith, fault-range f) in
+          let fault-is : faultNumber f ≡ n = omega (arith, fault-range f) in
+          subst (λ (j : ℕ). LowestFault arcs j n) arc-is (subst (LowestFault arcs k) fault-is (lowest k f b h none))
 
   pub told-known : {n : ℕ} → Told table q size n → Known n
   told-known told = go (turn-of (told .applies)) (told .none-before)

@@ -22,6 +22,11 @@ module _ {A : Type 0} (number : A → ℕ) (other : A) where
     none : ((j : ℕ) → j < length l → number (getD l j other) ≡ 0) → firstTold number i l ≡ 0 → First i l
     one : (k : ℕ) → FirstAt l k → firstTold number i l ≡ number (getD l k other) + 256 * (i + k) → First i l
 
+  -- one in front that has none
+  none-in-front : (a : A) (l : List A) {n : ℕ} → number a ≡ 0 → ((j : ℕ) → j < n → number (getD l j other) ≡ 0) → (j : ℕ) → j < suc n → number (getD (a ∷ l) j other) ≡ 0
+  none-in-front a l z rest zero b = z
+  none-in-front a l z rest (suc j) b = rest j (le-of-suc-le-suc b)
+
   pub first : (i : ℕ) (l : List A) → First i l
   unfolding firstTold
   first i [] = none (λ j b. absurd (not-suc-le-zero b)) refl
@@ -29,16 +34,9 @@ module _ {A : Type 0} (number : A → ℕ) (other : A) where
     where
       go : (b : Bool) → eqb (number a) 0 ≡ b → First (suc i) l → First i (a ∷ l)
       go false e rest = one 0 (record { inside = omega arith; has = eqb-false _ _ e; none-before = λ j b. absurd (not-suc-le-zero b) }) (rw e (omega arith))
-      go true e (none f z) = none all (rw e z)
-        where
-          all : (j : ℕ) → j < suc (length l) → number (getD (a ∷ l) j other) ≡ 0
-          all zero b = eqb-true _ _ e
-          all (suc j) b = f j (le-of-suc-le-suc b)
-      go true e (one k f is) = one (suc k) (record { inside = suc-le-suc (f .inside); has = f .has; none-before = before }) (rw e (omega (arith, is)))
-        where
-          before : (j : ℕ) → j < suc k → number (getD (a ∷ l) j other) ≡ 0
-          before zero b = eqb-true _ _ e
-          before (suc j) b = f .none-before j (le-of-suc-le-suc b)
+      go true e (none f z) = none (none-in-front a l (eqb-true _ _ e) f) (rw e z)
+      go true e (one k f is) =
+          one (suc k) (record { inside = suc-le-suc (f .inside); has = f .has; none-before = none-in-front a l (eqb-true _ _ e) (f .none-before) }) (rw e (omega (arith, is)))
 
   -- there is but one first
   pub first-told : {l : List A} {k : ℕ} → FirstAt l k → firstTold number 0 l ≡ number (getD l k other) + 256 * k
@@ -59,7 +57,7 @@ module _ {A : Type 0} (number : A → ℕ) (other : A) where
       go (First.none f z) = z
       go (First.one k f is) = absurd (f .has (all k (f .inside)))
 
-  -- one more that has none
+  -- one more behind that has none
   pub none-on : (l : List A) {k : ℕ} → ((j : ℕ) → j < k → number (getD l j other) ≡ 0) → number (getD l k other) ≡ 0 → (j : ℕ) → j < k + 1 → number (getD l j other) ≡ 0
   none-on l {k} before z j b = go (eqb j k) refl
     where
