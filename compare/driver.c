@@ -1,14 +1,16 @@
-/* Calls the planner on cases from standard input and writes its answers to standard output.
+/* Calls the library on cases from standard input and writes its answers to standard output.
  *
- * A case: six 32-bit little-endian numbers (table length, reply length, source, terminal, reach, allowance), then the
- * table's bytes. An answer: the number returned, 32 bits, then the whole reply buffer as the call left it. An answer
- * is flushed before the next case is read, so a reader who misses one knows which case ended the driver.
+ * A case: 32-bit little-endian numbers, then the bytes of its input. The first number is the kind: 0 is a plan, and
+ * table length, reply length, source, terminal, reach and allowance follow; 1 is a mend, and input length, table size
+ * and list size follow. An answer: the numbers returned, 32 bits each (one by a plan; number, table length and list
+ * length by a mend), then each whole output buffer as the call left it. An answer is flushed before the next case is
+ * read, so a reader who misses one knows which case ended the driver.
  *
- * Each case is called in three rounds: with table and reply each ending exactly at a page without access, with each
- * beginning exactly after one, and with each at an odd address, or NULL where it is empty. One byte read or written
- * outside either then ends the driver with a message, and so does a changed byte of the table or of the guard on the
- * reply's open side. The reply is filled before each call, not alike in all rounds; each byte of it must come out the
- * same in every round, or untouched in every round. The driver knows nothing else of the rules: its reader judges.
+ * Each case is called in three rounds: with each buffer ending exactly at a page without access, with each beginning
+ * exactly after one, and with each at an odd address, or NULL where it is empty. One byte read or written outside them
+ * then ends the driver with a message, and so does a changed byte of the input or of the guard on a buffer's open side.
+ * Outputs are filled before each call, not alike in all rounds; each byte of them must come out the same in every
+ * round, or untouched in every round. The driver knows nothing else of the rules: its reader judges.
  *
  * Each call runs on a stack of STACK bytes with a page without access below it, so one that needs more ends the driver;
  * how much was ever used is told at the end. */
@@ -25,8 +27,8 @@
 
 enum {
     EDGE = 65536,       /* bytes without access on each side: a multiple of every page size in use */
-    MOST = 131072,      /* bytes that a table or a reply may have */
-    GUARD = 4096,       /* bytes watched on the reply's open side */
+    MOST = 131072,      /* bytes that a buffer may have */
+    GUARD = 4096,       /* bytes watched on a buffer's open side */
     ROOM = MOST + EDGE, /* a buffer and its guard, in whole pages */
     GUARD_BYTE = 0xC3,
     STACK = 65536,      /* bytes of stack that a call may use */
@@ -34,9 +36,8 @@ enum {
     SECONDS = 120       /* for one call; meshes that can be listed take far less than one */
 };
 
-struct request {
-    uint32_t table_len, reply_len, source, terminal, reach, allowance;
-};
+/* The most that a case of any kind has. */
+enum { BUFFERS = 3, FIELDS = 6, NUMBERS = 3 };
 
 enum round { ENDING, BEGINNING, ODD, ROUNDS };
 
@@ -46,13 +47,57 @@ static const char *const round_words[ROUNDS] = {
     "buffers at odd addresses, NULL for what is empty",
 };
 
-static uint8_t *table_room, *reply_room, *stack_room;
-static unsigned long cases, calls, null_calls;
+struct buffer {
+    uint8_t *room;       /* where it is placed */
+    uint8_t *at;         /* its place in this round */
+    uint32_t length;
+    uint8_t bytes[MOST]; /* of the input, those that were read; of an output, those that the first round left */
+};
+
+/* The case at hand. */
+static struct buffer buffers[BUFFERS]; /* the input, then the outputs */
+static uint32_t fields[FIELDS];        /* the lengths of the buffers, then what else the call is given */
+static uint32_t numbers[NUMBERS];      /* what the call returned */
+
+static void plan(void)
+{
+    const struct buffer *table = &buffers[0], *reply = &buffers[1];
+
+    numbers[0] = feshangul_plan(table->at, table->length, reply->at, reply->length, fields[2], fields[3], fields[4],
+                                fields[5]);
+}
+
+static void mend(void)
+{
+    const struct buffer *input = &buffers[0], *table = &buffers[1], *list = &buffers[2];
+    feshangul_mended mended = feshangul_mend(input->at, input->length, table->at, table->length, list->at,
+                                             list->length);
+
+    numbers[0] = mended.number;
+    numbers[1] = mended.table_len;
+    numbers[2] = mended.list_len;
+}
+
+enum { PLAN, MEND, KINDS };
+
+static const struct kind {
+    size_t buffers, fields, numbers; /* how many it has */
+    const char *names[BUFFERS];      /* of its buffers, for messages */
+    void (*call)(void);
+} kinds[KINDS] = {
+    [PLAN] = { 2, 6, 1, { "the table", "the reply" }, plan },
+    [MEND] = { 3, 3, 3, { "the input", "the table", "the list" }, mend },
+};
+
+static const struct kind *kind; /* of the case at hand */
+
+static uint8_t *stack_room;
+static unsigned long cases, of_kind[KINDS], calls, null_calls;
 static enum round current; /* for messages */
 
-static void stop(const char *what)
+static void stop(const char *which, const char *what)
 {
-    fprintf(stderr, "driver: case %lu, %s: %s\n", cases, round_words[current], what);
+    fprintf(stderr, "driver: case %lu, %s: %s %s\n", cases, round_words[current], which, what);
     exit(3);
 }
 
@@ -76,7 +121,7 @@ static void watch_signals(void)
     struct sigaction action = { .sa_handler = stop_at_signal, .sa_flags = SA_ONSTACK };
 
     if (sigaltstack(&stack, NULL) != 0)
-        stop("no stack for signals");
+        stop("a stack for signals", "is not to be had");
     for (size_t i = 0; i < sizeof signals / sizeof signals[0]; i++)
         sigaction(signals[i], &action, NULL);
 }
@@ -86,34 +131,35 @@ static uint8_t *fenced_room(void)
 {
     uint8_t *all = mmap(NULL, EDGE + ROOM + 2 * EDGE, PROT_NONE, MAP_PRIVATE | MAP_ANONYMOUS, -1, 0);
     if (all == MAP_FAILED)
-        stop("no memory");
+        stop("memory", "is not to be had");
     uint8_t *room = all + EDGE + (EDGE - (uintptr_t)all % EDGE) % EDGE;
     if (mprotect(room, ROOM, PROT_READ | PROT_WRITE) != 0)
-        stop("no access to memory");
+        stop("access to memory", "is not to be had");
     return room;
 }
 
-static uint8_t *placed(uint8_t *room, uint32_t length, enum round round)
+static uint8_t *placed(const struct buffer *b, enum round round)
 {
     switch (round) {
-    case ENDING: return room + ROOM - length;
-    case BEGINNING: return room;
-    default: return length == 0 ? NULL : room + 1;
+    case ENDING: return b->room + ROOM - b->length;
+    case BEGINNING: return b->room;
+    default: return b->length == 0 ? NULL : b->room + 1;
     }
 }
 
-/* The GUARD bytes beside the reply where access goes on; behind it at an odd address. */
-static uint8_t *guard_beside(uint32_t reply_len, enum round round)
+/* The GUARD bytes beside a buffer where access goes on; behind it at an odd address. */
+static uint8_t *guard_beside(const struct buffer *b, enum round round)
 {
     switch (round) {
-    case ENDING: return reply_room + ROOM - reply_len - GUARD;
-    case BEGINNING: return reply_room + reply_len;
-    default: return reply_room + 1 + reply_len;
+    case ENDING: return b->room + ROOM - b->length - GUARD;
+    case BEGINNING: return b->room + b->length;
+    default: return b->room + 1 + b->length;
     }
 }
 
-/* What stands at a place of the reply before the call: bytes that no arc number, count or spare byte of a reply has,
- * so that one left unwritten shows; and their opposites in the second round, so that it shows by that, too. */
+/* What stands at a place of an output before the call: bytes that no count, reason or spare byte of an output has, and
+ * no arc number of a reply, so that one left unwritten shows; and their opposites in the second round, so that it shows
+ * by that, too. */
 static uint8_t filling(uint32_t place, enum round round)
 {
     uint8_t byte = (uint8_t)(128 + place % 127);
@@ -121,37 +167,45 @@ static uint8_t filling(uint32_t place, enum round round)
     return round == BEGINNING ? (uint8_t)~byte : byte;
 }
 
-/* A call as it goes to the small stack and comes back from it. */
-static struct {
-    const struct request *request;
-    const uint8_t *table;
-    uint8_t *reply;
-    uint32_t number;
-    ucontext_t there, back;
-} call;
-
-static void run_call(void)
+static void lend(struct buffer *b, enum round round)
 {
-    const struct request *r = call.request;
+    int is_input = b == buffers;
 
-    call.number = feshangul_plan(call.table, r->table_len, call.reply, r->reply_len, r->source, r->terminal, r->reach,
-                                 r->allowance);
+    b->at = placed(b, round);
+    for (uint32_t place = 0; place < b->length; place++)
+        b->at[place] = is_input ? b->bytes[place] : filling(place, round);
+    memset(guard_beside(b, round), GUARD_BYTE, GUARD);
 }
 
-static uint32_t call_on_small_stack(const struct request *r, const uint8_t *table, uint8_t *reply)
+static void hold_guard(size_t which, enum round round)
 {
-    call.request = r;
-    call.table = table;
-    call.reply = reply;
-    if (getcontext(&call.there) != 0)
-        stop("no context for the call");
-    call.there.uc_stack.ss_sp = stack_room;
-    call.there.uc_stack.ss_size = STACK;
-    call.there.uc_link = &call.back;
-    makecontext(&call.there, run_call, 0);
-    if (swapcontext(&call.back, &call.there) != 0)
-        stop("no way to the small stack");
-    return call.number;
+    const uint8_t *guard = guard_beside(&buffers[which], round);
+
+    for (size_t i = 0; i < GUARD; i++)
+        if (guard[i] != GUARD_BYTE)
+            stop(kind->names[which], "has a byte beside it that was written");
+}
+
+static void hold_input(void)
+{
+    const struct buffer *input = &buffers[0];
+
+    if (input->length != 0 && memcmp(input->at, input->bytes, input->length) != 0)
+        stop(kind->names[0], "was written to");
+}
+
+static void call_on_small_stack(void)
+{
+    static ucontext_t there, back;
+
+    if (getcontext(&there) != 0)
+        stop("a context for the call", "is not to be had");
+    there.uc_stack.ss_sp = stack_room;
+    there.uc_stack.ss_size = STACK;
+    there.uc_link = &back;
+    makecontext(&there, kind->call, 0);
+    if (swapcontext(&back, &there) != 0)
+        stop("the small stack", "is not to be reached");
 }
 
 /* How many bytes of the small stack were ever written. */
@@ -164,100 +218,124 @@ static size_t stack_used(void)
     return STACK - untouched;
 }
 
-/* Makes one call and returns its number; `after` gets what the reply buffer then holds. */
-static uint32_t call_planner(const struct request *r, const uint8_t *bytes, enum round round, uint8_t *after)
+/* Makes the call in a round; holds it to what it may write to, whatever that is to be. */
+static void call_in(enum round round)
 {
-    uint8_t *table = placed(table_room, r->table_len, round);
-    uint8_t *reply = placed(reply_room, r->reply_len, round);
-    uint8_t *guard = guard_beside(r->reply_len, round);
-
     current = round;
-    if (r->table_len != 0)
-        memcpy(table, bytes, r->table_len);
-    for (uint32_t place = 0; place < r->reply_len; place++)
-        reply[place] = filling(place, round);
-    memset(guard, GUARD_BYTE, GUARD);
+    for (size_t i = 0; i < kind->buffers; i++)
+        lend(&buffers[i], round);
 
     calls++;
     alarm(SECONDS);
-    uint32_t number = call_on_small_stack(r, table, reply);
+    call_on_small_stack();
     alarm(0);
 
-    if (r->table_len != 0 && memcmp(table, bytes, r->table_len) != 0)
-        stop("the table was written to");
-    for (size_t i = 0; i < GUARD; i++)
-        if (guard[i] != GUARD_BYTE)
-            stop("a byte beside the reply was written");
-    if (r->reply_len != 0)
-        memcpy(after, reply, r->reply_len);
-    return number;
+    for (size_t i = 0; i < kind->buffers; i++)
+        hold_guard(i, round);
+    hold_input();
+}
+
+/* Makes the first call and keeps what it left. */
+static void call_first(void)
+{
+    call_in(ENDING);
+    for (size_t i = 1; i < kind->buffers; i++)
+        memcpy(buffers[i].bytes, buffers[i].at, buffers[i].length);
 }
 
 /* Makes the call in a further round and holds it to what the first round returned and left. */
-static void call_again(const struct request *r, const uint8_t *bytes, enum round round, uint32_t number,
-                       const uint8_t *first)
+static void call_again(enum round round)
 {
-    static uint8_t again[MOST];
+    uint32_t first[NUMBERS];
 
-    if (call_planner(r, bytes, round, again) != number)
-        stop("another number than in the first round");
-    for (uint32_t place = 0; place < r->reply_len; place++) {
-        int untouched = first[place] == filling(place, ENDING) && again[place] == filling(place, round);
-        if (!untouched && first[place] != again[place])
-            stop("another reply than in the first round");
+    memcpy(first, numbers, sizeof first);
+    call_in(round);
+    if (memcmp(first, numbers, sizeof first) != 0)
+        stop("what is returned", "is not as in the first round");
+    for (size_t i = 1; i < kind->buffers; i++) {
+        const struct buffer *b = &buffers[i];
+        for (uint32_t place = 0; place < b->length; place++) {
+            int untouched = b->bytes[place] == filling(place, ENDING) && b->at[place] == filling(place, round);
+            if (!untouched && b->bytes[place] != b->at[place])
+                stop(kind->names[i], "is not as in the first round");
+        }
     }
 }
 
-/* Reads one case; returns 0 where there is none left. */
-static int read_case(struct request *r, uint8_t *table)
+/* Reads little-endian numbers; returns 0 where nothing is left to read. */
+static int read_numbers(uint32_t *into, size_t count)
 {
-    uint8_t head[24];
-    size_t got = fread(head, 1, sizeof head, stdin);
+    uint8_t bytes[4 * FIELDS];
+    size_t got = fread(bytes, 1, 4 * count, stdin);
 
     if (got == 0)
         return 0;
-    if (got != sizeof head)
-        stop("the case is cut off");
-    r->table_len = feshangul_u32(head);
-    r->reply_len = feshangul_u32(head + 4);
-    r->source = feshangul_u32(head + 8);
-    r->terminal = feshangul_u32(head + 12);
-    r->reach = feshangul_u32(head + 16);
-    r->allowance = feshangul_u32(head + 20);
-    if (r->table_len > MOST || r->reply_len > MOST)
-        stop("the case has a longer buffer than the driver lends");
-    if (fread(table, 1, r->table_len, stdin) != r->table_len)
-        stop("the case is cut off");
+    if (got != 4 * count)
+        stop("the case", "is cut off");
+    for (size_t i = 0; i < count; i++)
+        into[i] = feshangul_u32(bytes + 4 * i);
     return 1;
 }
 
-static void write_answer(uint32_t number, const uint8_t *reply, uint32_t reply_len)
+/* Reads one case; returns 0 where there is none left. */
+static int read_case(void)
 {
-    for (int byte = 0; byte < 4; byte++)
-        putchar((int)(number >> 8 * byte & 255));
-    fwrite(reply, 1, reply_len, stdout);
+    uint32_t number;
+
+    if (!read_numbers(&number, 1))
+        return 0;
+    if (number >= KINDS)
+        stop("the case", "is of no kind");
+    of_kind[number]++;
+    kind = &kinds[number];
+    if (!read_numbers(fields, kind->fields))
+        stop("the case", "is cut off");
+    for (size_t i = 0; i < kind->buffers; i++) {
+        buffers[i].length = fields[i];
+        if (fields[i] > MOST)
+            stop(kind->names[i], "is longer than what the driver lends");
+    }
+    if (fread(buffers[0].bytes, 1, buffers[0].length, stdin) != buffers[0].length)
+        stop("the case", "is cut off");
+    return 1;
+}
+
+/* Whether NULL stands for one of the buffers in the last round. */
+static int has_empty_buffer(void)
+{
+    for (size_t i = 0; i < kind->buffers; i++)
+        if (buffers[i].length == 0)
+            return 1;
+    return 0;
+}
+
+static void write_answer(void)
+{
+    for (size_t i = 0; i < kind->numbers; i++)
+        for (int byte = 0; byte < 4; byte++)
+            putchar((int)(numbers[i] >> 8 * byte & 255));
+    for (size_t i = 1; i < kind->buffers; i++)
+        fwrite(buffers[i].bytes, 1, buffers[i].length, stdout);
     if (fflush(stdout) != 0)
-        stop("the answer cannot be written");
+        stop("the answer", "cannot be written");
 }
 
 int main(void)
 {
-    static uint8_t table[MOST], reply[MOST];
-    struct request r;
-
-    table_room = fenced_room();
-    reply_room = fenced_room();
+    for (size_t i = 0; i < BUFFERS; i++)
+        buffers[i].room = fenced_room();
     stack_room = fenced_room();
     memset(stack_room, STACK_BYTE, STACK);
     watch_signals();
-    for (; read_case(&r, table); cases++) {
-        uint32_t number = call_planner(&r, table, ENDING, reply);
-        call_again(&r, table, BEGINNING, number, reply);
-        call_again(&r, table, ODD, number, reply);
-        null_calls += r.table_len == 0 || r.reply_len == 0;
-        write_answer(number, reply, r.reply_len);
+    for (; read_case(); cases++) {
+        call_first();
+        call_again(BEGINNING);
+        call_again(ODD);
+        null_calls += (unsigned long)has_empty_buffer();
+        write_answer();
     }
-    fprintf(stderr, "driver: %lu cases, %lu calls (%lu with NULL), no byte touched outside table and reply, "
-            "at most %zu of %d bytes of stack used\n", cases, calls, null_calls, stack_used(), STACK);
+    fprintf(stderr, "driver: %lu plans, %lu mends, %lu calls (%lu with NULL), no byte touched outside the buffers, "
+            "at most %zu of %d bytes of stack used\n", of_kind[PLAN], of_kind[MEND], calls, null_calls, stack_used(),
+            STACK);
     return 0;
 }

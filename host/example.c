@@ -1,5 +1,6 @@
 /* A C host in small: writes a span table (mesh A of the rules), asks for a pair from node 0 to node 3, and prints
- * it in words; then asks once more with an arc that is too long, and prints the refusal. Build it with the release:
+ * it in words; then asks once more with an arc that is too long, and prints the refusal; then mends that table, prints
+ * what was lost, and plans with what is left. Build it with the release:
  * cc -std=c99 -I release host/example.c release/libfeshangul.a */
 #include "feshangul.h"
 
@@ -87,6 +88,30 @@ static uint32_t plan_and_print(const uint8_t *table, size_t table_len)
     return number;
 }
 
+static void print_change(const uint8_t *change)
+{
+    static const char *const reasons[] = { "", "has an end that is no node", "ends where it begins", "is too long",
+        "had bytes 2 and 3 other than zero", "has 128 arcs before it", "is torn" };
+    const char *end = feshangul_change_new(change) == FESHANGUL_LOST ? "; it is lost" : "; it is kept";
+
+    printf("arc %lu %s%s\n", (unsigned long)feshangul_change_old(change), reasons[feshangul_change_reason(change)], end);
+}
+
+/* Mends a table and plans with what is left; returns the number of the planning. */
+static uint32_t mend_and_plan(const uint8_t *input, size_t input_len)
+{
+    uint8_t table[ARCS * FESHANGUL_ARC_BYTES], list[ARCS * FESHANGUL_CHANGE_BYTES];
+    feshangul_mended mended = feshangul_mend(input, input_len, table, sizeof table, list, sizeof list);
+
+    for (uint32_t at = 0; at < mended.list_len; at += FESHANGUL_CHANGE_BYTES)
+        print_change(list + at);
+    for (uint32_t arc = 0; arc < mended.table_len / FESHANGUL_ARC_BYTES; arc++)
+        if (feshangul_old_arc(list, mended.list_len, arc) != arc)
+            printf("arc %lu was arc %lu\n", (unsigned long)arc,
+                   (unsigned long)feshangul_old_arc(list, mended.list_len, arc));
+    return plan_and_print(table, mended.table_len);
+}
+
 int main(void)
 {
     uint8_t table[ARCS * FESHANGUL_ARC_BYTES];
@@ -101,5 +126,6 @@ int main(void)
 
     put_arc(table, 2, 0, 2, FESHANGUL_ARC_METRES_MAX + 1, RISK(2));
     int refused = feshangul_reason(plan_and_print(table, sizeof table)) == FESHANGUL_ARC_METRES_RANGE;
-    return planned && refused ? 0 : 1;
+    int mended = mend_and_plan(table, sizeof table) == FESHANGUL_SETTLED;
+    return planned && refused && mended ? 0 : 1;
 }

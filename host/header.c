@@ -1,5 +1,5 @@
-/* Tests what feshangul.h itself computes: the writers, the readers, a number taken apart, and that its version says
- * the same twice. Prints nothing and returns 0 where all is well; else it names the line that does not hold. */
+/* Tests what feshangul.h itself computes: the writers, the readers, a number taken apart, old arc numbers read off a list
+ * of changes, and that its version says the same twice. Prints nothing and returns 0 where all is well; else it names the line that does not hold. */
 #include "feshangul.h"
 
 #include <stdio.h>
@@ -56,6 +56,27 @@ static void test_reply(void)
     HOLD(feshangul_standby_arc(reply, 0) == 64 && feshangul_standby_arc(reply, 30) == 94);
 }
 
+static void test_changes(void)
+{
+    /* Of ten arcs 0, 3, 4 and 9 are lost, and arc 5, now arc 2, is changed. */
+    static const uint8_t list[5 * FESHANGUL_CHANGE_BYTES] = {
+        0, 0, FESHANGUL_LOST_NODE, 0, 255, 255, 0, 0, 0, 0, 0, 0, 0, 0, 0, 0,
+        3, 0, FESHANGUL_LOST_ENDS, 0, 255, 255, 0, 0, 0, 0, 0, 0, 0, 0, 0, 0,
+        4, 0, FESHANGUL_LOST_LENGTH, 0, 255, 255, 0, 0, 0, 0, 0, 0, 0, 0, 0, 0,
+        5, 0, FESHANGUL_SPARE_ZEROED, 0, 2, 0, 0, 0, 0, 0, 0, 0, 0, 0, 0, 0,
+        9, 0, FESHANGUL_LOST_TORN, 0, 255, 255, 0, 0, 0, 0, 0, 0, 0, 0, 0, 0,
+    };
+    static const uint32_t old[] = { 1, 2, 5, 6, 7, 8 };
+    static const uint8_t wide[FESHANGUL_CHANGE_BYTES] = { 1, 2, 3, 9, 4, 5, 9 };
+
+    for (uint32_t arc = 0; arc < sizeof old / sizeof old[0]; arc++)
+        HOLD(feshangul_old_arc(list, sizeof list, arc) == old[arc]);
+    HOLD(feshangul_old_arc(list, 0, 7) == 7);
+    HOLD(feshangul_change_new(list) == FESHANGUL_LOST);
+    HOLD(feshangul_change_old(wide) == 0x0201u && feshangul_change_reason(wide) == 3);
+    HOLD(feshangul_change_new(wide) == 0x0504u);
+}
+
 static void test_version(void)
 {
     unsigned first, second, third;
@@ -69,6 +90,7 @@ int main(void)
     test_arcs();
     test_numbers();
     test_reply();
+    test_changes();
     test_version();
     return 0;
 }

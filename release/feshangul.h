@@ -2,6 +2,7 @@
  *
  * This header is all that a C or C++ host includes. Fill a span table, call feshangul_plan, look at the number it
  * returns, and where that is 0 or 1 read the reply with the functions at the end. host/example.c does just that.
+ * A table from the field that may be faulty goes through feshangul_mend first.
  *
  * Linux on x86-64. Link with `pkg-config --cflags --libs feshangul`, or this header's folder and libfeshangul.a; the
  * library needs memcpy and memset of its host and nothing else.
@@ -21,8 +22,8 @@
 extern "C" {
 #endif
 
-#define FESHANGUL_VERSION "0.3.0"
-#define FESHANGUL_VERSION_NUMBER 300u    /* 10,000 times the first part, and 100 times the second, and the third */
+#define FESHANGUL_VERSION "0.4.0"
+#define FESHANGUL_VERSION_NUMBER 400u    /* 10,000 times the first part, and 100 times the second, and the third */
 
 /* ---- Sizes and limits ------------------------------------------------------------------------------------- */
 
@@ -36,6 +37,8 @@ extern "C" {
 #define FESHANGUL_ARC_METRES_MAX 2000000u
 #define FESHANGUL_REACH_MAX 62000000u    /* 31 arcs of 2,000,000 metres: no route is longer */
 #define FESHANGUL_ALLOWANCE_MAX 1000000u
+#define FESHANGUL_MEND_BYTES_MAX 4096u   /* the longest table that is mended */
+#define FESHANGUL_CHANGE_BYTES 16u       /* one record of the list of what was changed or lost */
 #define FESHANGUL_STACK_BYTES 65536u     /* stack to have left for a call; the most measured is 33,256 */
 
 /* ---- The span table ---------------------------------------------------------------------------------------
@@ -65,6 +68,44 @@ extern "C" {
 uint32_t feshangul_plan(const uint8_t *table, size_t table_len, uint8_t *reply, size_t reply_len, uint32_t source,
                         uint32_t terminal, uint32_t reach, uint32_t allowance);
 
+/* ---- The mender ------------------------------------------------------------------------------------------- */
+
+typedef struct {
+    uint32_t number;    /* 0, or the number of a refusal: then both lengths are 0 and nothing was written */
+    uint32_t table_len; /* bytes of the mended table, a multiple of FESHANGUL_ARC_BYTES, at most 2,048 */
+    uint32_t list_len;  /* bytes of the list, a multiple of FESHANGUL_CHANGE_BYTES; 0 exactly for a clean input */
+} feshangul_mended;
+
+/* Mends a table from the field: writes the table that is left once every arc with a bad node, equal ends or a bad
+ * length, every arc past 128 kept ones and a torn end are taken out and the spare bytes of what is kept are made zero;
+ * and the list of what was changed or lost. feshangul_plan refuses a mended table for none of its bytes. A clean table
+ * comes out as it is, with an empty list, and so does a mended one.
+ *
+ * input, input_len    the table from the field, up to FESHANGUL_MEND_BYTES_MAX; only read. NULL with 0 is an empty one.
+ * table, table_size   where the mended table goes, and
+ * list, list_size     where the list goes: each at least as many bytes as the input has, rounded up to 16. Bytes behind
+ *                     the two lengths stay as they were. No two of the three buffers overlap.
+ *
+ * Numbers: 0; FESHANGUL_TABLE_LONG where the input is over FESHANGUL_MEND_BYTES_MAX; else FESHANGUL_OUTPUT_SHORT. What
+ * feshangul_plan says of alignment, state and threads holds here too. */
+feshangul_mended feshangul_mend(const uint8_t *input, size_t input_len, uint8_t *table, size_t table_size,
+                                uint8_t *list, size_t list_size);
+
+/* The list has one record for each arc that was changed or lost and one for a torn end, by rising old number. Where a
+ * field of it begins; the bytes between and behind them are zero. */
+#define FESHANGUL_CHANGE_OLD 0u     /* the arc's number in the input; a torn end counts as the arc it would have been */
+#define FESHANGUL_CHANGE_REASON 2u  /* one byte, one of those below */
+#define FESHANGUL_CHANGE_NEW 4u     /* its number in the mended table, or FESHANGUL_LOST */
+#define FESHANGUL_LOST 65535u
+
+/* Why, of several reasons the first. All but FESHANGUL_SPARE_ZEROED say that the arc is lost: ask the operator. */
+#define FESHANGUL_LOST_NODE 1u    /* its tail or head is no node */
+#define FESHANGUL_LOST_ENDS 2u    /* its tail equals its head */
+#define FESHANGUL_LOST_LENGTH 3u  /* it is longer than FESHANGUL_ARC_METRES_MAX */
+#define FESHANGUL_SPARE_ZEROED 4u /* it is kept, and its bytes 2 and 3 were made zero */
+#define FESHANGUL_LOST_PAST 5u    /* it has no such fault, and FESHANGUL_ARCS_MAX are kept before it */
+#define FESHANGUL_LOST_TORN 6u    /* the input's last bytes are no whole record */
+
 /* ---- Numbers returned, and what to do on each --------------------------------------------------------------
  *
  * With 0 and 1 a reply is written. All others are refusals: nothing was planned and the reply buffer is as it was.
@@ -88,7 +129,8 @@ static inline uint32_t feshangul_faulty_arc(uint32_t number) { return number / 2
  * tried. Use it as it is, or ask again with a larger allowance: that never gives a worse pair. */
 #define FESHANGUL_STOPPED 1u
 
-/* The table is too long. Leave out arcs that cannot matter, so that FESHANGUL_ARCS_MAX remain. */
+/* The table is too long. Leave out arcs that cannot matter, so that FESHANGUL_ARCS_MAX remain. Of feshangul_mend: the
+ * input is over FESHANGUL_MEND_BYTES_MAX; ask the operator what it is, since no table of ours is nearly as long. */
 #define FESHANGUL_TABLE_LONG 2u
 
 /* The table is no whole number of arcs. It was cut off or padded on its way: load it again. */
@@ -130,6 +172,10 @@ static inline uint32_t feshangul_faulty_arc(uint32_t number) { return number / 2
  * Mend whatever wrote the input. */
 #define FESHANGUL_INPUT_FAULT 12u
 
+/* Only returned by feshangul_mend: one of its two outputs is too short. A fault of the host: lend as many bytes as the
+ * input has, rounded up to a multiple of 16; FESHANGUL_MEND_BYTES_MAX are always enough. */
+#define FESHANGUL_OUTPUT_SHORT 13u
+
 /* ---- The reply record -------------------------------------------------------------------------------------
  *
  * Where a field begins; docs/FORMATS.md says what each holds. The functions at the end read them. */
@@ -147,6 +193,8 @@ static inline uint32_t feshangul_faulty_arc(uint32_t number) { return number / 2
 #define FESHANGUL_NO_ARC 255u            /* stands behind a route's last arc number */
 
 /* ---- Numbers in bytes, little-endian whatever the host's own order ------------------------------------------ */
+
+static inline uint32_t feshangul_u16(const uint8_t *at) { return (uint32_t)at[0] | (uint32_t)at[1] << 8; }
 
 static inline uint32_t feshangul_u32(const uint8_t *at)
 {
@@ -225,6 +273,32 @@ static inline uint32_t feshangul_main_arc(const uint8_t *reply, uint32_t place)
 static inline uint32_t feshangul_standby_arc(const uint8_t *reply, uint32_t place)
 {
     return reply[FESHANGUL_REPLY_STANDBY + place];
+}
+
+/* ---- Readers of a list of changes ---------------------------------------------------------------------------
+ *
+ * `change` is one record of the list that feshangul_mend has written, the first at its beginning. */
+
+static inline uint32_t feshangul_change_old(const uint8_t *change)
+{
+    return feshangul_u16(change + FESHANGUL_CHANGE_OLD);
+}
+
+static inline uint32_t feshangul_change_reason(const uint8_t *change) { return change[FESHANGUL_CHANGE_REASON]; }
+
+/* FESHANGUL_LOST where the arc is lost */
+static inline uint32_t feshangul_change_new(const uint8_t *change)
+{
+    return feshangul_u16(change + FESHANGUL_CHANGE_NEW);
+}
+
+/* The number that arc `arc` of the mended table had in the input: each one lost at or before it puts it one further. */
+static inline uint32_t feshangul_old_arc(const uint8_t *list, uint32_t list_len, uint32_t arc)
+{
+    for (uint32_t at = 0; at + FESHANGUL_CHANGE_BYTES <= list_len; at += FESHANGUL_CHANGE_BYTES)
+        if (feshangul_change_new(list + at) == FESHANGUL_LOST && feshangul_change_old(list + at) <= arc)
+            arc++;
+    return arc;
 }
 
 #ifdef __cplusplus

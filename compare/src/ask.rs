@@ -1,4 +1,4 @@
-//! Asks the planner: its entry through the C driver, and its program `routes`.
+//! Asks the library through the C driver, and the program `routes`.
 
 use crate::mesh::{number, Case};
 use std::io::{Read, Write};
@@ -6,11 +6,45 @@ use std::process::{Child, Command, Stdio};
 use std::thread;
 use std::time::Duration;
 
-/// What a call returned, and the whole reply buffer after it.
+/// What the driver calls a plan and a mend.
+const PLAN: u32 = 0;
+pub const MEND: u32 = 1;
+
+/// A call that the driver can make.
+pub trait Call: Sync {
+    /// How many numbers it returns.
+    const RETURNED: usize;
+
+    /// Its kind, the lengths of its input and outputs, and what else it is given.
+    fn numbers(&self) -> Vec<u32>;
+
+    fn input_bytes(&self) -> &[u8];
+
+    fn output_lengths(&self) -> Vec<usize>;
+}
+
+impl Call for Case {
+    const RETURNED: usize = 1;
+
+    fn numbers(&self) -> Vec<u32> {
+        let r = &self.request;
+        vec![PLAN, self.table.len() as u32, self.reply_len as u32, r.source, r.terminal, r.reach, r.allowance]
+    }
+
+    fn input_bytes(&self) -> &[u8] {
+        &self.table
+    }
+
+    fn output_lengths(&self) -> Vec<usize> {
+        vec![self.reply_len]
+    }
+}
+
+/// What a call returned, and each whole output buffer after it.
 #[derive(PartialEq)]
 pub struct Given {
-    pub number: u32,
-    pub buffer: Vec<u8>,
+    pub numbers: Vec<u32>,
+    pub outputs: Vec<Vec<u8>>,
 }
 
 /// Answers in the order of the cases, fewer where the driver stopped; what it said of its run, and how it ended.
@@ -20,7 +54,7 @@ pub struct Answers {
     pub ended_well: bool,
 }
 
-/// What the driver fills a reply buffer with before its first call.
+/// What the driver fills an output buffer with before its first call.
 pub fn filled(bytes: usize) -> Vec<u8> {
     (0..bytes).map(|place| 128 + (place % 127) as u8).collect()
 }
@@ -35,22 +69,34 @@ fn start(command: &[String]) -> Child {
         .unwrap_or_else(|error| panic!("{}: {error}", command[0]))
 }
 
-fn read_answer(from: &mut impl Read, reply_len: usize) -> Option<Given> {
-    let mut answer = vec![0; 4 + reply_len];
-    from.read_exact(&mut answer).ok()?;
-    let buffer = answer.split_off(4);
-    Some(Given { number: number(&answer) as u32, buffer })
+/// What the driver reads.
+fn frame(call: &impl Call) -> Vec<u8> {
+    let mut frame: Vec<u8> = call.numbers().iter().flat_map(|number| number.to_le_bytes()).collect();
+    frame.extend(call.input_bytes());
+    frame
+}
+
+fn read_bytes(from: &mut impl Read, count: usize) -> Option<Vec<u8>> {
+    let mut bytes = vec![0; count];
+    from.read_exact(&mut bytes).ok()?;
+    Some(bytes)
+}
+
+fn read_answer<C: Call>(from: &mut impl Read, call: &C) -> Option<Given> {
+    let numbers = read_bytes(from, 4 * C::RETURNED)?.chunks(4).map(|bytes| number(bytes) as u32).collect();
+    let outputs: Option<_> = call.output_lengths().into_iter().map(|length| read_bytes(from, length)).collect();
+    Some(Given { numbers, outputs: outputs? })
 }
 
 /// Sends all cases to one driver.
-pub fn driver(command: &[String], cases: &[Case]) -> Answers {
+pub fn driver<C: Call>(command: &[String], cases: &[C]) -> Answers {
     let mut child = start(command);
     let mut to = child.stdin.take().expect("a pipe");
     let mut from = child.stdout.take().expect("a pipe");
     let given = thread::scope(|scope| {
         // Beside the reading, since neither pipe holds all; a driver that stops early breaks this one.
-        scope.spawn(move || cases.iter().try_for_each(|case| to.write_all(&case.frame())).ok());
-        cases.iter().map_while(|case| read_answer(&mut from, case.reply_len)).collect()
+        scope.spawn(move || cases.iter().try_for_each(|case| to.write_all(&frame(case))).ok());
+        cases.iter().map_while(|case| read_answer(&mut from, case)).collect()
     });
     drop(from);
     let output = child.wait_with_output().expect("the driver's end");

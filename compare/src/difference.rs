@@ -2,15 +2,16 @@
 
 use crate::ask::Given;
 use crate::listing::{answer, Answer, Plan, REPLY_BYTES};
-use crate::mesh::{arcs_of, arcs_on_paper, number, risks_on_paper, table_bytes, Case, ARC_BYTES};
+use crate::mesh::{arcs_of, arcs_on_paper, number, risks_on_paper, table_bytes, torn_end, Case, ARC_BYTES};
 use std::time::{Duration, Instant};
 
 /// So much of a ranking is printed.
 const ROUTES_SHOWN: usize = 60;
 /// Smaller cases are looked for no longer than this.
 const PATIENCE: Duration = Duration::from_secs(60);
-/// At most so many parts of a table are taken out in turn, so that huge tables are first halved.
-const PARTS: usize = 128;
+/// At most so many parts of a table are taken out in turn, so that huge tables are first halved. A table that is mended
+/// has up to so many arcs.
+const PARTS: usize = 256;
 
 const REPLY_FIELDS: [(&str, usize, usize); 13] = [
     ("verdict", 0, 1),
@@ -52,10 +53,18 @@ fn with_fitting_allowances(former: &Case, smaller: Case) -> Vec<Case> {
     fitting
 }
 
-fn without_arcs(case: &Case, place: usize, taken: usize) -> Case {
-    let mut smaller = case.clone();
-    smaller.table.drain(place * ARC_BYTES..(place + taken) * ARC_BYTES);
-    smaller
+/// The tables that are left when many arcs are taken out, then fewer, then each.
+pub fn smaller_tables(table: &[u8]) -> Vec<Vec<u8>> {
+    let arcs = table.len() / ARC_BYTES;
+    let mut tables = Vec::new();
+    let mut taken = arcs;
+    while taken > 0 && arcs / taken <= PARTS {
+        for place in (0..=arcs - taken).step_by(taken) {
+            tables.push([&table[..place * ARC_BYTES], &table[(place + taken) * ARC_BYTES..]].concat());
+        }
+        taken /= 2;
+    }
+    tables
 }
 
 /// The case with a risk taken off all its arcs, where any has it.
@@ -65,20 +74,14 @@ fn without_risk(case: &Case, risk: u32) -> Option<Case> {
         return None;
     }
     arcs.iter_mut().for_each(|arc| arc.risks &= !(1 << risk));
-    let torn = case.table.chunks_exact(ARC_BYTES).remainder();
-    Some(Case { table: [&table_bytes(&arcs), torn].concat(), ..case.clone() })
+    Some(Case { table: [&table_bytes(&arcs), torn_end(&case.table)].concat(), ..case.clone() })
 }
 
 /// What to try in place of a case: without many arcs, without one, without a risk, with the plainest buffer.
-fn smaller_cases(case: &Case) -> Vec<Case> {
-    let arcs = case.table.len() / ARC_BYTES;
+pub fn smaller_cases(case: &Case) -> Vec<Case> {
     let mut cases = Vec::new();
-    let mut taken = arcs;
-    while taken > 0 && arcs / taken <= PARTS {
-        for place in (0..=arcs - taken).step_by(taken) {
-            cases.extend(with_fitting_allowances(case, without_arcs(case, place, taken)));
-        }
-        taken /= 2;
+    for table in smaller_tables(&case.table) {
+        cases.extend(with_fitting_allowances(case, Case { table, ..case.clone() }));
     }
     cases.extend((0..64).filter_map(|risk| without_risk(case, risk)).flat_map(|s| with_fitting_allowances(case, s)));
     if case.reply_len > REPLY_BYTES {
@@ -87,11 +90,11 @@ fn smaller_cases(case: &Case) -> Vec<Case> {
     cases
 }
 
-/// Makes a case that differs smaller for as long as some smaller one still differs; `find` tells which does.
-pub fn smallest(mut case: Case, find: impl Fn(&[Case]) -> Option<usize>) -> Case {
+/// Makes a case that differs smaller for as long as one of the smaller ones still differs; `find` tells which does.
+pub fn smallest<C>(mut case: C, smaller: impl Fn(&C) -> Vec<C>, find: impl Fn(&[C]) -> Option<usize>) -> C {
     let started = Instant::now();
     while started.elapsed() < PATIENCE {
-        let mut cases = smaller_cases(&case);
+        let mut cases = smaller(&case);
         match find(&cases) {
             Some(place) => case = cases.swap_remove(place),
             None => break,
@@ -108,7 +111,7 @@ fn field_on_paper(name: &str, bytes: &[u8]) -> String {
     }
 }
 
-fn first_written(expected: &[u8], given: &[u8], from: usize) -> Option<usize> {
+pub fn first_written(expected: &[u8], given: &[u8], from: usize) -> Option<usize> {
     (from..expected.len()).find(|&place| expected[place] != given[place])
 }
 
@@ -166,14 +169,10 @@ pub fn expected_on_paper(answer: &Answer) -> String {
     }
 }
 
-/// What a call gave instead; nothing came where the driver stopped.
-pub fn given_on_paper(expected: &Given, given: Option<&Given>, said: &str) -> String {
-    let given = match given {
-        None => return format!("given: no answer; {said}\n"),
-        Some(given) => given,
-    };
-    let number = format!("given: number {}, {} expected\n", given.number, expected.number);
-    let planned = expected.number <= 1;
+/// What a call gave instead.
+pub fn given_on_paper(expected: &Given, given: &Given) -> String {
+    let number = format!("given: number {}, {} expected\n", given.numbers[0], expected.numbers[0]);
+    let planned = expected.numbers[0] <= 1;
     let differences = if planned { reply_differences } else { refusal_differences };
-    number + &differences(&expected.buffer, &given.buffer)
+    number + &differences(&expected.outputs[0], &given.outputs[0])
 }

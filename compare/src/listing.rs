@@ -5,6 +5,7 @@ use crate::mesh::{arcs_of, arcs_on_paper, number, Arc, Case, Request, ARC_BYTES}
 use std::ops::ControlFlow;
 
 pub const TABLE_BYTES_MAX: usize = 2_048;
+pub const ARCS_MAX: usize = TABLE_BYTES_MAX / ARC_BYTES;
 pub const REPLY_BYTES: usize = 96;
 pub const NODE_MAX: u32 = 31;
 pub const METRES_MAX: u32 = 2_000_000;
@@ -256,7 +257,7 @@ impl Answer {
 }
 
 /// The numbers of faults that an arc can have, in order, and whether it has each.
-fn arc_checks(arc: &Arc) -> [(u32, bool); 4] {
+pub fn arc_checks(arc: &Arc) -> [(u32, bool); 4] {
     [
         (20, u32::from(arc.tail) > NODE_MAX || u32::from(arc.head) > NODE_MAX),
         (21, arc.tail == arc.head),

@@ -1,25 +1,36 @@
 //! The separate program: holds the planner to document 01, with the requests that have landed, by listing every route
-//! and every pair. Its rules are read anew from those; it shares no code and no definition with the planner.
+//! and every pair; and the mender to T-01, by mending each table itself. Its rules are read anew from those; it shares
+//! no code and no definition with the library.
 //!
-//!   compare listing                        holds the listing itself to the cases that 01 works by hand
+//!   compare listing                        holds the listing itself to the cases that 01 works by hand, and the mender
+//!                                          here to tables mended by hand
 //!   compare calls COUNT SEED COMMAND..     compares those cases and COUNT random calls, through the driver COMMAND
+//!   compare mends COUNT SEED COMMAND..     compares those tables and COUNT random ones, through the driver COMMAND
 //!   compare texts COUNT SEED COMMAND..     compares what the program COMMAND prints for those cases and COUNT inputs
 //!
-//! It ends with status 1 at any difference, and prints the smallest mesh that it finds for the first one.
+//! It ends with status 1 at any difference, and prints the smallest mesh or table that it finds for the first one.
 
 mod ask;
 mod cases;
 mod counts;
 mod difference;
 mod listing;
+mod mender;
+mod mender_cases;
+mod mender_counts;
+mod mender_difference;
+mod mender_random;
 mod mesh;
 mod random;
 mod trade;
 
-use ask::Given;
+use ask::{Answers, Call, Given};
 use counts::Counts;
-use difference::{expected_on_paper, given_on_paper, smallest};
+use difference::{expected_on_paper, smaller_cases, smallest};
 use listing::{answer, answer_to_input, case_of_input, printed, Answer};
+use mender::Mend;
+use mender_counts::MenderCounts;
+use mender_difference::{outcome_on_paper, smaller_mends};
 use mesh::Case;
 use random::Dice;
 use std::process::exit;
@@ -32,8 +43,9 @@ const SLOW_EVERY: usize = 200;
 fn main() {
     let words: Vec<String> = std::env::args().skip(1).collect();
     let same = match (words.first().map(String::as_str), words.len()) {
-        (Some("listing"), 1) => hold_listing(),
+        (Some("listing"), 1) => hold_listing() && hold_mender(),
         (Some("calls"), 4..) => hold_listing() && compare_calls(whole(&words[1]), whole(&words[2]), &words[3..]),
+        (Some("mends"), 4..) => hold_mender() && compare_mends(whole(&words[1]), whole(&words[2]), &words[3..]),
         (Some("texts"), 4..) => hold_listing() && compare_texts(whole(&words[1]), whole(&words[2]), &words[3..]),
         _ => usage(),
     };
@@ -41,7 +53,9 @@ fn main() {
 }
 
 fn usage() -> ! {
-    eprintln!("usage: compare listing | calls COUNT SEED DRIVER.. | texts COUNT SEED PROGRAM..");
+    eprintln!(
+        "usage: compare listing | calls COUNT SEED DRIVER.. | mends COUNT SEED DRIVER.. | texts COUNT SEED PROGRAM.."
+    );
     exit(2)
 }
 
@@ -51,18 +65,79 @@ fn whole(word: &str) -> u64 {
 
 /// Nothing is compared with a listing that does not give what 01 says.
 fn hold_listing() -> bool {
-    let held = cases::hold_listing();
-    match &held {
-        Ok(rows) => println!("listing: {rows} worked rows come out as they are said to"),
-        Err(wrong) => println!("listing: {wrong}"),
+    held("listing", cases::hold_listing())
+}
+
+/// Nor with a mender that does not give what comes out by hand.
+fn hold_mender() -> bool {
+    held("mender", mender_cases::hold_mender())
+}
+
+fn held(what: &str, rows: Result<usize, String>) -> bool {
+    match &rows {
+        Ok(rows) => println!("{what}: {rows} worked rows come out as they are said to"),
+        Err(wrong) => println!("{what}: {wrong}"),
     }
-    held.is_ok()
+    rows.is_ok()
+}
+
+// ---- The driver ----
+
+/// How the driver's answers compare: the place of the first that differs, and whether all is well.
+struct Compared {
+    first: Option<usize>,
+    same: bool,
+}
+
+/// Holds the driver's answers to what is expected at each place, and prints how many differ.
+fn compare(
+    what: &str,
+    seed: u64,
+    command: &[String],
+    all: &[impl Call],
+    expected: impl FnMut(usize) -> Given,
+) -> Compared {
+    let answers = ask::driver(command, all);
+    let expected = (0..all.len()).map(expected).enumerate();
+    let differing: Vec<usize> = expected
+        .filter(|(place, expected)| answers.given.get(*place) != Some(expected))
+        .map(|(place, _)| place)
+        .collect();
+    let unanswered = all.len() - answers.given.len();
+    let wrong = differing.len() - unanswered;
+    println!("{what}: {} cases (seed {seed}), {unanswered} not answered, {wrong} answered otherwise", all.len());
+    println!("  {}", answers.said);
+    Compared { first: differing.first().copied(), same: differing.is_empty() && answers.ended_well }
+}
+
+/// Makes a case that differs as small as it can be, and asks for that one alone.
+fn smallest_asked<C: Call + Clone>(
+    command: &[String],
+    case: &C,
+    smaller: impl Fn(&C) -> Vec<C>,
+    expected: impl Fn(&C) -> Given,
+) -> (C, Answers) {
+    let small = smallest(case.clone(), smaller, |cases| {
+        let given = ask::driver(command, cases).given;
+        (0..cases.len()).find(|&place| given.get(place) != Some(&expected(&cases[place])))
+    });
+    let answers = ask::driver(command, std::slice::from_ref(&small));
+    (small, answers)
+}
+
+/// Prints what came of a case that was asked for alone; nothing came where the driver stopped.
+fn show_given(answers: &Answers, expected: &Given, on_paper: fn(&Given, &Given) -> String) {
+    match answers.given.first() {
+        None => println!("given: no answer; {}\n", answers.said),
+        Some(given) if given == expected => println!("given: the same; it does not differ every time\n"),
+        Some(given) => println!("{}", on_paper(expected, given)),
+    }
 }
 
 // ---- Calls ----
 
 fn expected_of(case: &Case, answer: &Answer) -> Given {
-    Given { number: answer.number(), buffer: answer.buffer_after(ask::filled(case.reply_len)) }
+    Given { numbers: vec![answer.number()], outputs: vec![answer.buffer_after(ask::filled(case.reply_len))] }
 }
 
 fn compare_calls(count: u64, seed: u64, command: &[String]) -> bool {
@@ -71,36 +146,51 @@ fn compare_calls(count: u64, seed: u64, command: &[String]) -> bool {
     all.extend((0..count).map(|_| random::case(&mut dice)));
     let (all, shapes): (Vec<Case>, Vec<Option<Shape>>) = all.into_iter().unzip();
 
-    let answers = ask::driver(command, &all);
     let mut counts = Counts::default();
-    let mut differing = Vec::new();
-    for (place, case) in all.iter().enumerate() {
-        let answer = answer(case);
-        counts.add(Some(case), shapes[place], &answer);
-        if answers.given.get(place) != Some(&expected_of(case, &answer)) {
-            differing.push(place);
-        }
-    }
-    let unanswered = all.len() - answers.given.len();
-    let wrong = differing.len() - unanswered;
-    println!("calls: {} cases (seed {seed}), {unanswered} not answered, {wrong} answered otherwise", all.len());
-    println!("  {}", answers.said);
+    let compared = compare("calls", seed, command, &all, |place| {
+        let answer = answer(&all[place]);
+        counts.add(Some(&all[place]), shapes[place], &answer);
+        expected_of(&all[place], &answer)
+    });
     counts.print();
-    if let Some(&first) = differing.first() {
+    if let Some(first) = compared.first {
         show_call(command, &all[first]);
     }
-    differing.is_empty() && answers.ended_well
+    compared.same
 }
 
 fn show_call(command: &[String], case: &Case) {
-    let small = smallest(case.clone(), |cases| {
-        let given = ask::driver(command, cases).given;
-        (0..cases.len()).find(|&place| given.get(place) != Some(&expected_of(&cases[place], &answer(&cases[place]))))
-    });
-    let answers = ask::driver(command, std::slice::from_ref(&small));
+    let (small, answers) = smallest_asked(command, case, smaller_cases, |case| expected_of(case, &answer(case)));
     let answer = answer(&small);
     print!("\nDIFFERENCE\n{}{}", small.on_paper(), expected_on_paper(&answer));
-    println!("{}", given_on_paper(&expected_of(&small, &answer), answers.given.first(), &answers.said));
+    show_given(&answers, &expected_of(&small, &answer), difference::given_on_paper);
+}
+
+// ---- Mends ----
+
+fn compare_mends(count: u64, seed: u64, command: &[String]) -> bool {
+    let mut dice = Dice::new(seed);
+    let mut all: Vec<Mend> = mender_cases::all().into_iter().map(|row| row.mend).collect();
+    all.extend((0..count).map(|_| mender_random::mend(&mut dice)));
+
+    let mut counts = MenderCounts::default();
+    let compared = compare("mends", seed, command, &all, |place| {
+        let outcome = all[place].outcome();
+        counts.add(&all[place], &outcome);
+        all[place].expected(&outcome)
+    });
+    counts.print();
+    if let Some(first) = compared.first {
+        show_mend(command, &all[first]);
+    }
+    compared.same
+}
+
+fn show_mend(command: &[String], mend: &Mend) {
+    let (small, answers) = smallest_asked(command, mend, smaller_mends, |mend| mend.expected(&mend.outcome()));
+    let outcome = small.outcome();
+    print!("\nDIFFERENCE\n{}expected: {}", small.on_paper(), outcome_on_paper(&outcome));
+    show_given(&answers, &small.expected(&outcome), mender_difference::given_on_paper);
 }
 
 // ---- Texts ----
@@ -151,7 +241,7 @@ fn show_text(command: &[String], input: &[u8]) {
     println!("\nDIFFERENCE");
     if let Some(case) = case_of_input(input) {
         let differs = |case: &Case| given(&input_of(case)) != printed(&answer(case));
-        let case = smallest(case, |cases| cases.iter().position(differs));
+        let case = smallest(case, smaller_cases, |cases| cases.iter().position(differs));
         small = input_of(&case);
         print!("{}", case.on_paper());
     } else {

@@ -1,6 +1,8 @@
 //! Arcs, requests and cases: as bytes, and as people write them on paper (01, "Meshes worked by hand").
 
 pub const ARC_BYTES: usize = 16;
+/// So many arcs of a table are put on paper: one more than the longest input that is mended has.
+const ARCS_SHOWN: usize = 257;
 
 /// One record of the span table, whether its fields are in range or not.
 #[derive(Clone, Copy)]
@@ -68,6 +70,27 @@ pub fn arcs_of(table: &[u8]) -> Vec<Arc> {
     table.chunks_exact(ARC_BYTES).map(Arc::from_bytes).collect()
 }
 
+/// The bytes left over at the end of a table that is no whole number of records.
+pub fn torn_end(table: &[u8]) -> &[u8] {
+    table.chunks_exact(ARC_BYTES).remainder()
+}
+
+/// A line for each arc, and one for a torn end.
+pub fn table_on_paper(table: &[u8]) -> String {
+    let arcs = arcs_of(table);
+    let mut text = String::new();
+    for (place, arc) in arcs.iter().enumerate().take(ARCS_SHOWN) {
+        text += &format!("{place}: {}\n", arc.on_paper());
+    }
+    if arcs.len() > ARCS_SHOWN {
+        text += &format!("and {} more\n", arcs.len() - ARCS_SHOWN);
+    }
+    if !torn_end(table).is_empty() {
+        text += &format!("torn end: {:02x?}\n", torn_end(table));
+    }
+    text
+}
+
 /// The set `{0,63}` of a risk field.
 pub fn risks_on_paper(risks: u64) -> String {
     let names: Vec<String> = (0..64).filter(|r| risks >> r & 1 == 1).map(|r| r.to_string()).collect();
@@ -100,34 +123,16 @@ impl Case {
     /// The case as a person would set it down to work it.
     pub fn on_paper(&self) -> String {
         let r = &self.request;
-        let mut text = format!(
-            "source {}, terminal {}, reach {}, allowance {}\ntable of {} bytes, reply buffer of {} bytes\n",
+        format!(
+            "source {}, terminal {}, reach {}, allowance {}\ntable of {} bytes, reply buffer of {} bytes\n{}",
             r.source,
             r.terminal,
             r.reach,
             r.allowance,
             self.table.len(),
-            self.reply_len
-        );
-        for (place, arc) in arcs_of(&self.table).iter().enumerate() {
-            text += &format!("{place}: {}\n", arc.on_paper());
-        }
-        let torn = self.table.chunks_exact(ARC_BYTES).remainder();
-        if !torn.is_empty() {
-            text += &format!("torn end: {torn:02x?}\n");
-        }
-        text
-    }
-
-    /// What the driver reads.
-    pub fn frame(&self) -> Vec<u8> {
-        let r = &self.request;
-        let mut frame = Vec::new();
-        for field in [self.table.len() as u32, self.reply_len as u32, r.source, r.terminal, r.reach, r.allowance] {
-            frame.extend(field.to_le_bytes());
-        }
-        frame.extend(&self.table);
-        frame
+            self.reply_len,
+            table_on_paper(&self.table)
+        )
     }
 
     /// What the program `routes` reads, where the request fits its record.

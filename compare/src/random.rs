@@ -1,13 +1,12 @@
 //! Random meshes and requests from a fixed seed, small enough to list, with what goes wrong in this trade; and damage
 //! done to them, often in several places at once.
 
-use crate::listing::{ranking_within, Plan, Route, ALLOWANCE_MAX, METRES_MAX, REACH_MAX, REPLY_BYTES, TABLE_BYTES_MAX};
-use crate::mesh::{arcs_of, table_bytes, Arc, Case, Request, ARC_BYTES};
+use crate::listing::{ranking_within, Plan, Route, ALLOWANCE_MAX, ARCS_MAX, METRES_MAX, REACH_MAX, REPLY_BYTES};
+use crate::mesh::{arcs_of, table_bytes, torn_end, Arc, Case, Request, ARC_BYTES};
 use crate::trade::{Shape, SHAPES};
 
 /// So many meshes in a hundred have one of the trade's shapes.
 const TRADE_PERCENT: usize = 25;
-const ARCS_MAX: usize = TABLE_BYTES_MAX / ARC_BYTES;
 /// A mesh with more routes than this, or more arcs to look at in listing them, loses an arc.
 const FEW: Listable = Listable { routes: 300, patience: 5_000 };
 /// The same for some meshes, since every pair of so many takes its time.
@@ -27,7 +26,7 @@ impl Dice {
         Dice(seed)
     }
 
-    fn roll(&mut self) -> u64 {
+    pub fn roll(&mut self) -> u64 {
         self.0 = self.0.wrapping_add(0x9E37_79B9_7F4A_7C15);
         let mut z = self.0;
         z = (z ^ (z >> 30)).wrapping_mul(0xBF58_476D_1CE4_E5B9);
@@ -51,7 +50,7 @@ impl Dice {
         from[self.below(from.len())]
     }
 
-    fn shuffle<T>(&mut self, list: &mut [T]) {
+    pub fn shuffle<T>(&mut self, list: &mut [T]) {
         for last in (1..list.len()).rev() {
             list.swap(last, self.below(last + 1));
         }
@@ -333,14 +332,8 @@ fn sound(dice: &mut Dice, shape: Option<Shape>) -> Case {
 
 // ---- Damage ----
 
-fn damage_arc(dice: &mut Dice, case: &mut Case) {
-    let mut arcs = arcs_of(&case.table);
-    if arcs.is_empty() {
-        return;
-    }
-    let anywhere = dice.below(arcs.len());
-    let place = dice.pick(&[0, arcs.len() - 1, anywhere]);
-    let arc = &mut arcs[place];
+/// Gives an arc one of the faults that it can have; it may have others.
+pub fn spoil(dice: &mut Dice, arc: &mut Arc) {
     match dice.below(5) {
         0 => arc.tail = dice.pick(&[32, 33, 64, 255]),
         1 => arc.head = dice.pick(&[32, 33, 64, 255]),
@@ -348,8 +341,17 @@ fn damage_arc(dice: &mut Dice, case: &mut Case) {
         3 => arc.spare = dice.pick(&[1, 128, 256, 32_768, 65_535]),
         _ => arc.metres = dice.pick(&[METRES_MAX + 1, 1 << 24, 1 << 31, u32::MAX]),
     }
-    let torn = case.table.chunks_exact(ARC_BYTES).remainder().to_vec();
-    case.table = [table_bytes(&arcs), torn].concat();
+}
+
+fn damage_arc(dice: &mut Dice, case: &mut Case) {
+    let mut arcs = arcs_of(&case.table);
+    if arcs.is_empty() {
+        return;
+    }
+    let anywhere = dice.below(arcs.len());
+    let place = dice.pick(&[0, arcs.len() - 1, anywhere]);
+    spoil(dice, &mut arcs[place]);
+    case.table = [&table_bytes(&arcs), torn_end(&case.table)].concat();
 }
 
 fn lengthen(dice: &mut Dice, table: &mut Vec<u8>, bytes: usize) {

@@ -1,15 +1,23 @@
-/* Answers calls of the planner: cases on standard input, answers on standard output, until the input ends.
+/* Answers calls of the planner and the mender: cases on standard input, answers on standard output, until the input ends.
  *
  * For machines that are not x86-64: an emulator runs this program, once for any number of calls. It needs no C library,
  * neither to be linked nor to run, so it is the same file everywhere and wants nothing but the emulator.
  *
- * A case: six 32-bit little-endian numbers (table length, reply length, source, terminal, reach, allowance), then the
- * table's bytes. An answer: the number returned, 32 bits, then the whole reply buffer, which is zero before each call.
- * Exit status 0 where the input ends between two cases, 1 where it ends within one or the output is closed, 2 where a
- * length is over MOST. */
+ * A case begins with its kind; all numbers are of 32 bits, little-endian, and buffers are zero before each call.
+ *
+ *   0, plan   table length, reply length, source, terminal, reach, allowance, then the table's bytes. The answer: the
+ *             number returned, then the whole reply buffer.
+ *   1, mend   input length, table size, list size, then the input's bytes. The answer: the number returned and the
+ *             lengths of the mended table and of the list, then the whole table buffer and the whole list buffer.
+ *
+ * Exit status 0 where the input ends between two cases, 1 where it ends within one or the output is closed, 2 where the
+ * kind is another or a length is over MOST. */
 #include "feshangul.h"
 
 enum { MOST = 65536 };
+enum { PLAN = 0, MEND = 1 };
+
+static uint8_t input[MOST], answer[12 + 2 * MOST];
 
 /* What the archive asks of a C library. Volatile, so that the compiler does not make either a call of itself. */
 void *memcpy(void *to, const void *from, size_t length)
@@ -72,31 +80,71 @@ static void write_all(const uint8_t *from, size_t length)
     }
 }
 
-static void answer_case(const uint8_t *head)
+/* Reads so many bytes, which have to come. */
+static void read_all(uint8_t *to, size_t length)
 {
-    static uint8_t table[MOST], answer[4 + MOST];
-    uint32_t table_len = feshangul_u32(head), reply_len = feshangul_u32(head + 4);
-
-    if (table_len > MOST || reply_len > MOST)
-        end(2);
-    if (read_up_to(table, table_len) != table_len)
+    if (read_up_to(to, length) != length)
         end(1);
+}
+
+/* A length of a case, no longer than the buffers here. */
+static uint32_t length_at(const uint8_t *at)
+{
+    uint32_t length = feshangul_u32(at);
+
+    if (length > MOST)
+        end(2);
+    return length;
+}
+
+static void answer_plan(void)
+{
+    uint8_t head[24];
+
+    read_all(head, sizeof head);
+    uint32_t table_len = length_at(head), reply_len = length_at(head + 4);
+    read_all(input, table_len);
     memset(answer + 4, 0, reply_len);
-    uint32_t number = feshangul_plan(table, table_len, answer + 4, reply_len, feshangul_u32(head + 8),
+    uint32_t number = feshangul_plan(input, table_len, answer + 4, reply_len, feshangul_u32(head + 8),
                                      feshangul_u32(head + 12), feshangul_u32(head + 16), feshangul_u32(head + 20));
     feshangul_put_u32(answer, number);
     write_all(answer, 4 + reply_len);
 }
 
+static void answer_mend(void)
+{
+    uint8_t head[12];
+
+    read_all(head, sizeof head);
+    uint32_t input_len = length_at(head), table_size = length_at(head + 4), list_size = length_at(head + 8);
+    uint8_t *table = answer + 12, *list = table + table_size;
+    read_all(input, input_len);
+    memset(table, 0, table_size + list_size);
+    feshangul_mended mended = feshangul_mend(input, input_len, table, table_size, list, list_size);
+    feshangul_put_u32(answer, mended.number);
+    feshangul_put_u32(answer + 4, mended.table_len);
+    feshangul_put_u32(answer + 8, mended.list_len);
+    write_all(answer, 12 + table_size + list_size);
+}
+
 static _Noreturn void serve(void)
 {
-    uint8_t head[24];
+    uint8_t kind[4];
 
     for (;;) {
-        size_t got = read_up_to(head, sizeof head);
-        if (got != sizeof head)
+        size_t got = read_up_to(kind, sizeof kind);
+        if (got != sizeof kind)
             end(got == 0 ? 0 : 1);
-        answer_case(head);
+        switch (feshangul_u32(kind)) {
+        case PLAN:
+            answer_plan();
+            break;
+        case MEND:
+            answer_mend();
+            break;
+        default:
+            end(2);
+        }
     }
 }
 

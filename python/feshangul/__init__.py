@@ -7,24 +7,29 @@
         answer = feshangul.plan(mesh, request)
         print(answer.verdict, answer.main.metres, answer.standby.metres)
 
-`plan` returns a Pair, or a Refusal with its number and words. The standard library alone is needed.
+`plan` returns a Pair, or a Refusal with its number and words. `mend` takes out of a mesh what the planner would refuse of its
+arcs, and returns a Mended, or a MendRefusal; `mend_table` does so for a table in bytes. The standard library alone is needed.
 """
 
-__version__ = "0.3.0"
+__version__ = "0.4.0"
 
 from pathlib import Path
 
 from .answer import Pair, Refusal, Route, plan
 from .fault import Fault, InputFault, LibraryFault, clean
+from .mending import Change, Mended, MendRefusal, mend, mend_table
 from .mesh import Arc, Mesh, Request, Risk, Site
 from .text import read as parse_mesh
 from .text import write as write_mesh
 
 __all__ = [
     "Arc",
+    "Change",
     "Fault",
     "InputFault",
     "LibraryFault",
+    "MendRefusal",
+    "Mended",
     "Mesh",
     "Pair",
     "Refusal",
@@ -32,6 +37,8 @@ __all__ = [
     "Risk",
     "Route",
     "Site",
+    "mend",
+    "mend_table",
     "parse_mesh",
     "plan",
     "read_mesh",

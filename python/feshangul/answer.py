@@ -5,7 +5,7 @@ from __future__ import annotations
 from dataclasses import dataclass
 
 from . import records, rules
-from .fault import InputFault, LibraryFault
+from .fault import InputFault, hold_reply
 from .library import planner
 from .mesh import Mesh, Request
 
@@ -102,7 +102,7 @@ def _refusal_for_arc(mesh, request, number):
     arc, reason = divmod(number, rules.REASONS)
     faults = [rules.arc_fault(record) for record in mesh.arcs[: arc + 1]]
     named = faults.pop() if arc < len(mesh.arcs) else None
-    _hold(named is not None and named[0] == reason and not any(faults), f"number {number}, which is not that of its arcs")
+    hold_reply(named is not None and named[0] == reason and not any(faults), f"number {number}, which is not that of its arcs")
     return Refusal(mesh, request, number, f"{_place(arc, mesh.arcs[arc])}: {named[1]}", arc)
 
 
@@ -116,24 +116,19 @@ def _pair(mesh, request, number, reply):
     main = _route(mesh, request, reply.main, reply.main_metres)
     standby = _route(mesh, request, reply.standby, reply.standby_metres)
     common = main.risks & standby.risks
-    _hold(reply.verdict == number, f"verdict {reply.verdict} beside number {number}")
-    _hold(reply.shared_risks == common and reply.shared == len(common), f"{reply.shared} shared where {len(common)} are")
-    _hold(reply.floor <= reply.shared, f"a floor of {reply.floor} over {reply.shared} shared")
-    _hold(1 <= reply.ranked <= request.allowance, f"{reply.ranked} ranked")
+    hold_reply(reply.verdict == number, f"verdict {reply.verdict} beside number {number}")
+    hold_reply(reply.shared_risks == common and reply.shared == len(common), f"{reply.shared} shared where {len(common)} are")
+    hold_reply(reply.floor <= reply.shared, f"a floor of {reply.floor} over {reply.shared} shared")
+    hold_reply(1 <= reply.ranked <= request.allowance, f"{reply.ranked} ranked")
     return Pair(mesh, request, number, reply.shared, reply.floor, reply.ranked, common, main, standby)
 
 
 def _route(mesh, request, numbers, metres):
     nodes = [request.source]
     for number in numbers:
-        _hold(number < len(mesh.arcs) and mesh.arcs[number].tail == nodes[-1], f"arc {number} from node {nodes[-1]}")
+        hold_reply(number < len(mesh.arcs) and mesh.arcs[number].tail == nodes[-1], f"arc {number} from node {nodes[-1]}")
         nodes.append(mesh.arcs[number].head)
     arcs = [mesh.arcs[number] for number in numbers]
-    _hold(nodes[-1] == request.terminal, f"a route to node {nodes[-1]}")
-    _hold(sum(a.metres for a in arcs) == metres <= request.reach, f"a route of {metres} m")
+    hold_reply(nodes[-1] == request.terminal, f"a route to node {nodes[-1]}")
+    hold_reply(sum(a.metres for a in arcs) == metres <= request.reach, f"a route of {metres} m")
     return Route(tuple(numbers), tuple(nodes), metres, frozenset().union(*(a.risks for a in arcs)))
-
-
-def _hold(holds, found):
-    if not holds:
-        raise LibraryFault(f"the library's reply does not fit this mesh (it has {found}): is it of another version?")

@@ -1,33 +1,46 @@
 """The command `feshangul`."""
 
+from __future__ import annotations
+
 import argparse
 import contextlib
 import json
 import os
 import sys
 from dataclasses import replace
+from typing import NamedTuple
 
-from . import __version__, answer, names, records, rules, sheet, text, why
+from . import __version__, answer, mending, names, records, rules, sheet, text, why
 from .fault import Fault, InputFault, OutputFault, clean, quoted
 from .line import Line
 from .mesh import Request
 
 STATUSES = "exit status: 0 settled, 1 stopped, 2 usage or input, 3 refused; the highest where a mesh has several requests"
+MEND_STATUSES = "exit status: 0 nothing to mend, 1 something was changed or lost, 2 usage or input, 3 refused by number"
+CHANGED = 1
 REFUSED = 3
 INPUT_MOST = 1 << 20  # bytes; no mesh that can be planned comes near
 LONGEST_MESSAGE = 200  # characters of a foreign text in one
+
+
+class Done(NamedTuple):
+    """What a run leaves: its output, its exit status and, where the output is not for people, words beside it."""
+
+    output: str | bytes
+    status: int
+    words: str = ""
 
 
 def main(words=None):
     """Runs the command and returns its exit status."""
     try:
         options = _parser().parse_args(words)
-        output, status = options.run(options)
-        _write(output)  # whole, and only here, so that a fault anywhere leaves standard output empty
-        return status
+        done = options.run(options)
+        _write(done.output)  # whole, and only here, so that a fault anywhere leaves standard output empty
+        _tell(done.words)
+        return done.status
     except Fault as fault:
-        if sys.stderr is not None:
-            print(f"feshangul: {fault}", file=sys.stderr)
+        _tell(f"feshangul: {fault}\n")
         return 2
     except KeyboardInterrupt:
         return 130
@@ -43,9 +56,24 @@ def _write(output):
         sys.stdout.buffer.write(output)
         sys.stdout.flush()
     except OSError as error:
-        with contextlib.suppress(OSError):  # what is left in the buffer would be written, and fail, once more
-            os.dup2(os.open(os.devnull, os.O_WRONLY), sys.stdout.fileno())
+        _give_up(sys.stdout)
         raise OutputFault(f"standard output: {error.strerror}") from None
+
+
+def _tell(words):
+    """Words on standard error; where they cannot be written, the exit status alone tells."""
+    if sys.stderr is not None:
+        try:
+            sys.stderr.write(words)
+            sys.stderr.flush()
+        except OSError:
+            _give_up(sys.stderr)
+
+
+def _give_up(stream):
+    """What is left in its buffer would be written, and fail, once more when Python ends, with a status of its own."""
+    with contextlib.suppress(OSError):
+        os.dup2(os.open(os.devnull, os.O_WRONLY), stream.fileno())
 
 
 # ---- plan ----
@@ -56,8 +84,8 @@ def _plan(options):
     answers = [answer.plan(mesh, request) for request in mesh.requests]
     status = max(_status(found) for found in answers)
     if options.json:
-        return "".join(_as_json(found, options.why) for found in answers).encode(), status
-    return "\n".join(_as_sheet(found, options.why) for found in answers), status
+        return Done("".join(_as_json(found, options.why) for found in answers).encode(), status)
+    return Done("\n".join(_as_sheet(found, options.why) for found in answers), status)
 
 
 def _status(found):
@@ -73,6 +101,10 @@ def _as_json(found, with_why):
     if with_why:
         better = why.least_reach(found)
         fields["why"] = better and {"reach": better.reach, "shared": better.shared}
+    return _json(fields)
+
+
+def _json(fields):
     return json.dumps(fields, ensure_ascii=False) + "\n"
 
 
@@ -129,6 +161,39 @@ def _place(word):
     return _option("--request", word, lambda line: line.number("a request's place", text.FOUR_BYTES, "1 on"))
 
 
+# ---- mend ----
+
+
+def _mend(options):
+    """A mended mesh is headed by the words, as comments; a mended table in bytes has them beside it."""
+    found = mending.mend_table(_read(options.mesh)) if options.bytes else mending.mend(_read_mesh(options.mesh))
+    status = _mend_status(found)
+    if options.json:
+        return Done(_mended_json(found, options.bytes), status)
+    if status == REFUSED:  # no mesh and no table is left that could be printed
+        return Done(b"", status, f"feshangul: {_shown(options.mesh)}: refused, number {found.number}: {found.words}\n")
+    words = mending.words(found)
+    if options.bytes:
+        return Done(records.put_table(found.mesh.arcs), status, "".join(f"{line}\n" for line in words))
+    return Done(("".join(f"# {line}\n" for line in words) + text.write(found.mesh)).encode(), status)
+
+
+def _mend_status(found):
+    if not isinstance(found, mending.Mended):
+        return REFUSED
+    return CHANGED if found.changes else 0
+
+
+def _mended_json(found, as_bytes):
+    fields = mending.data(found)
+    if isinstance(found, mending.Mended):
+        if as_bytes:
+            fields["table"] = records.put_table(found.mesh.arcs).hex()
+        else:
+            fields["mesh"] = text.write(found.mesh)
+    return _json(fields).encode()
+
+
 # ---- bytes and text ----
 
 
@@ -136,14 +201,14 @@ def _bytes(options):
     mesh = _asked(options, _read_mesh(options.mesh))
     if len(mesh.requests) != 1:
         raise InputFault(f"{_shown(options.mesh)}: expected one request, found {len(mesh.requests)}: choose by --request")
-    return records.put_request(mesh.requests[0]) + records.put_table(mesh.arcs), 0
+    return Done(records.put_request(mesh.requests[0]) + records.put_table(mesh.arcs), 0)
 
 
 def _text(options):
     mesh = records.get_mesh(_read(options.bytes), _shown(options.bytes))
     if options.names:
         mesh = names.given(mesh, _read_mesh(options.names), _shown(options.names))
-    return text.write(mesh).encode(), 0
+    return Done(text.write(mesh).encode(), 0)
 
 
 # ---- files ----
@@ -209,6 +274,17 @@ def _parser():
     plan.add_argument("--json", action="store_true", help="print one JSON object a request, each on a line of its own")
     plan.add_argument("--why", action="store_true", help="tell the least reach at which fewer risks would be shared")
     plan.set_defaults(run=_plan)
+
+    mend = commands.add_parser(
+        "mend",
+        help="take out of a mesh the arcs that the planner refuses",
+        epilog=MEND_STATUSES,
+        description="Prints what the planner takes of a mesh, headed by comments that say what was changed or lost, by line.",
+    )
+    mend.add_argument("mesh", metavar="MESH", help="a mesh, docs/MESHES.md; - for standard input")
+    mend.add_argument("--bytes", action="store_true", help="MESH is the bytes of a table of arcs, and so is what is printed")
+    mend.add_argument("--json", action="store_true", help="print one JSON object, with the mended mesh in it as text")
+    mend.set_defaults(run=_mend)
 
     to_bytes = commands.add_parser(
         "bytes",

@@ -19,6 +19,12 @@ class LibraryFault(Fault):
     """The planner's library cannot be used here, or does not answer as it should."""
 
 
+def hold_reply(holds, found):
+    """The planner is proved, but the library that was found may be another one's: a reply is held against its mesh."""
+    if not holds:
+        raise LibraryFault(f"the library's reply does not fit this mesh (it has {found}): is it of another version?")
+
+
 def clean(text):
     """Text without anything that a terminal would obey: what is not printable is written as \\xNN."""
     return "".join(c if c.isprintable() else f"\\x{ord(c):02x}" for c in text)

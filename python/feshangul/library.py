@@ -1,5 +1,5 @@
-"""The proved planner, as the release has it: loaded into this process on x86-64; elsewhere one small x86-64 program under
-an emulator, started once, that answers any number of calls."""
+"""The proved planner and mender, as the release has them: loaded into this process on x86-64; elsewhere one small x86-64
+program under an emulator, started once, that answers any number of calls."""
 
 import atexit
 import contextlib
@@ -13,6 +13,7 @@ import subprocess
 import threading
 from pathlib import Path
 
+from . import rules
 from .fault import LibraryFault, clean
 from .records import REPLY_BYTES
 
@@ -22,6 +23,8 @@ HERE = Path(__file__).resolve()
 RELEASE = HERE.parents[2] / "release"  # where this package is run from the repository
 INSTALLED = HERE.parents[3]  # PREFIX/lib, where `make install` has put it
 TABLE_BYTES_MAX = 2048
+OUTPUT_BYTES = rules.MEND_BYTES_MAX  # of the mended table, and of the list: always enough
+PLAN, MEND = 0, 1  # the kinds of case that host/serve answers
 X86_64 = platform.machine() in ("x86_64", "AMD64")
 
 
@@ -35,22 +38,37 @@ def planner():
     return Served([*_emulator(), _serve()])
 
 
+class _Mended(ctypes.Structure):
+    """What feshangul_mend returns, as the header has it."""
+
+    _fields_ = (("number", ctypes.c_uint32), ("table_len", ctypes.c_uint32), ("list_len", ctypes.c_uint32))
+
+
 class Loaded:
     """The library in this process. It keeps nothing between calls, so any number of threads may call at once."""
 
     def __init__(self, path):
         try:
-            self._plan = ctypes.CDLL(str(path)).feshangul_plan
+            library = ctypes.CDLL(str(path))
+            self._plan, self._mend = library.feshangul_plan, library.feshangul_mend
         except (OSError, AttributeError) as error:
             raise LibraryFault(f"the planner's library cannot be loaded: {error}") from None
         self._plan.restype = ctypes.c_uint32
-        self._plan.argtypes = [ctypes.c_char_p, ctypes.c_size_t, ctypes.c_char_p, ctypes.c_size_t] + [ctypes.c_uint32] * 4
+        self._plan.argtypes = [ctypes.c_char_p, ctypes.c_size_t] * 2 + [ctypes.c_uint32] * 4
+        self._mend.restype = _Mended
+        self._mend.argtypes = [ctypes.c_char_p, ctypes.c_size_t] * 3
 
     def plan(self, table, source, terminal, reach, allowance):
         """The number that feshangul_plan returns, and the reply that it leaves."""
         reply = ctypes.create_string_buffer(REPLY_BYTES)
         number = self._plan(table, len(table), reply, REPLY_BYTES, source, terminal, reach, allowance)
         return number, reply.raw
+
+    def mend(self, table):
+        """The number that feshangul_mend returns, the mended table, and the list of what was changed or lost."""
+        mended, listed = ctypes.create_string_buffer(OUTPUT_BYTES), ctypes.create_string_buffer(OUTPUT_BYTES)
+        found = self._mend(table, len(table), mended, OUTPUT_BYTES, listed, OUTPUT_BYTES)
+        return found.number, mended.raw[: found.table_len], listed.raw[: found.list_len]
 
 
 class Served:
@@ -75,17 +93,30 @@ class Served:
         """As Loaded.plan."""
         # Any longer table is refused for its length alone, so one byte more than the most says as much.
         table = table[: TABLE_BYTES_MAX + 1]
-        case = struct.pack("<6I", len(table), REPLY_BYTES, source, terminal, reach, allowance) + table
+        case = struct.pack("<7I", PLAN, len(table), REPLY_BYTES, source, terminal, reach, allowance) + table
+        answer = self._ask(case, 4 + REPLY_BYTES)
+        return struct.unpack_from("<I", answer)[0], answer[4:]
+
+    def mend(self, table):
+        """As Loaded.mend."""
+        table = table[: rules.MEND_BYTES_MAX + 1]  # as much as says that it is too long, as in plan
+        case = struct.pack("<4I", MEND, len(table), OUTPUT_BYTES, OUTPUT_BYTES) + table
+        answer = self._ask(case, 12 + 2 * OUTPUT_BYTES)
+        number, table_len, list_len = struct.unpack_from("<3I", answer)
+        mended, listed = answer[12 : 12 + OUTPUT_BYTES], answer[12 + OUTPUT_BYTES :]
+        return number, mended[:table_len], listed[:list_len]
+
+    def _ask(self, case, answer_bytes):
         with self._turn:
             try:
                 self._program.stdin.write(case)
                 self._program.stdin.flush()
-                answer = self._program.stdout.read(4 + REPLY_BYTES)
+                answer = self._program.stdout.read(answer_bytes)
             except OSError:
                 answer = b""
-        if len(answer) != 4 + REPLY_BYTES:
+        if len(answer) != answer_bytes:
             raise LibraryFault(f"the planner's program has ended with status {self._program.wait()}")
-        return struct.unpack_from("<I", answer)[0], answer[4:]
+        return answer
 
 
 def _library():

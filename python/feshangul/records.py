@@ -1,4 +1,4 @@
-"""Records as bytes, little-endian (docs/FORMATS.md, "Records"): arcs and requests both ways, replies read."""
+"""Records as bytes, little-endian (docs/FORMATS.md, "Records"): arcs, requests and changes both ways, replies read."""
 
 from __future__ import annotations
 
@@ -9,12 +9,13 @@ from . import rules
 from .fault import InputFault
 from .mesh import Arc, Mesh, Request
 
-RECORD_BYTES = 16
 REPLY_BYTES = 96
 
 _ARC = struct.Struct("<BBHIQ")  # tail, head, spare, metres, risks
 _REQUEST = struct.Struct("<BBHIII")  # source, terminal, spare, reach, allowance, spare
 _REPLY = struct.Struct("<5B3x3I4xQ32s32s")
+_CHANGE = struct.Struct("<HBxH10x")  # old number, reason, new number
+_LOST = 2**16 - 1  # in place of a new number
 
 
 def risks_field(risks):
@@ -43,15 +44,36 @@ def put_request(r):
 
 def get_mesh(data, where):
     """The mesh of the bytes that `routes` reads, a request and then arcs; `where` names their place in a message."""
-    torn = len(data) % RECORD_BYTES
+    torn = len(data) % rules.RECORD_BYTES
     if not data or torn:
         at = len(data) - torn
-        raise InputFault(f"{where} byte {at}: expected a record of {RECORD_BYTES} bytes, found {torn}")
+        raise InputFault(f"{where} byte {at}: expected a record of {rules.RECORD_BYTES} bytes, found {torn}")
     source, terminal, low, reach, allowance, high = _REQUEST.unpack_from(data)
-    arcs = []
-    for tail, head, spare, metres, risk_field in _ARC.iter_unpack(data[RECORD_BYTES:]):
-        arcs.append(Arc(tail, head, metres, risks_of(risk_field), spare))
-    return Mesh(tuple(arcs), (Request(source, terminal, reach, allowance, (low, high)),))
+    return Mesh(get_table(data[rules.RECORD_BYTES :]), (Request(source, terminal, reach, allowance, (low, high)),))
+
+
+def get_table(data):
+    """The arcs of whole records."""
+    fields = _ARC.iter_unpack(data)
+    return tuple(Arc(tail, head, metres, risks_of(risk_field), spare) for tail, head, spare, metres, risk_field in fields)
+
+
+@dataclass(frozen=True)
+class Listed:
+    """A record of the mender's list: an arc's old number, the reason, and its new number, None where it is lost."""
+
+    old: int
+    reason: int
+    new: int | None
+
+
+def get_list(data):
+    return tuple(Listed(old, reason, None if new == _LOST else new) for old, reason, new in _CHANGE.iter_unpack(data))
+
+
+def put_list(changes):
+    """The list that says these changes; whatever has the fields of Listed."""
+    return b"".join(_CHANGE.pack(c.old, c.reason, _LOST if c.new is None else c.new) for c in changes)
 
 
 @dataclass(frozen=True)

@@ -1,4 +1,4 @@
-"""The limits and the numbers of docs/RULES.md, and each refusal in words."""
+"""The limits and the numbers of docs/RULES.md, and each refusal, and each reason of the mender, in words."""
 
 NODES = 32
 RISKS = 64
@@ -6,6 +6,8 @@ ARCS = 128
 ARC_METRES_MAX = 2_000_000
 REACH_MAX = 62_000_000  # 31 arcs of 2,000,000 metres: no route is longer
 ALLOWANCE_MAX = 1_000_000
+RECORD_BYTES = 16  # an arc, a request, or a change that the mender lists
+MEND_BYTES_MAX = 4096  # of a table that is mended
 
 # What makes sense in each field, as messages say it; most fields of a record hold more.
 NODE_RANGE = f"0 to {NODES - 1}"
@@ -47,6 +49,36 @@ def arc_fault(arc):
     if arc.spare:
         return ARC_SPARE, f"the spare bytes are {arc.spare} and not zero"
     return None
+
+
+# ---- mending ----
+
+# Why an arc is changed or lost: the faults of an arc in turn, past the limit of arcs, or as a torn end.
+MEND_REASONS = LOST_NODE, LOST_ENDS, LOST_LENGTH, SPARE_ZEROED, LOST_PAST, LOST_TORN = 1, 2, 3, 4, 5, 6
+_REASON_OF = dict(zip(ARC_FAULTS, MEND_REASONS))
+
+MEND_REFUSALS = {
+    2: f"the table is over {MEND_BYTES_MAX:,} bytes, which are {MEND_BYTES_MAX // RECORD_BYTES} arcs",
+    13: "an output buffer is shorter than the table",
+}
+
+
+def mend_reason(arc, kept):
+    """Why an arc is changed or lost where `kept` are kept before it, by number and in words; None where it stays as it is."""
+    fault = arc_fault(arc)
+    if fault and fault[0] != ARC_SPARE:
+        return _REASON_OF[fault[0]], fault[1]
+    if kept >= ARCS:
+        return LOST_PAST, f"{ARCS} arcs are kept before it"
+    return fault and (SPARE_ZEROED, f"the spare bytes were {arc.spare} and are zero")
+
+
+def torn_reason(length):
+    """Why the end of a table is lost that is so many bytes and no whole record."""
+    return LOST_TORN, f"torn off after {length} of its {RECORD_BYTES} bytes"
+
+
+# ---- lengths ----
 
 
 def kilometres(metres):

@@ -21,7 +21,7 @@ def words(answer):
     """The sheet: what a planner asks of an answer, in words."""
     text = _asked(answer)
     if not isinstance(answer, Pair):
-        return text + f"Refused, number {answer.number}: {answer.words}.\n"
+        return text + f"Refused, number {answer.number}: {answer.words}.\n" + _remedy(answer)
     text += _verdict(answer) + _shared(answer) + _floor(answer) + _met(answer)
     text += _route("Main", answer, answer.main)
     if answer.main == answer.standby:
@@ -35,6 +35,14 @@ def _asked(answer):
     mesh, r = answer.mesh, answer.request
     no_limit = ", which sets no limit" if r.reach == rules.REACH_MAX else ""
     return f"From {mesh.site(r.source)} to {mesh.site(r.terminal)}, each route within {r.reach:,} m{no_limit}.\n"
+
+
+def _remedy(refusal):
+    """What mends a faulty arc."""
+    if refusal.arc is None:
+        return ""
+    of_spare = refusal.number % rules.REASONS == rules.ARC_SPARE
+    return f"`feshangul mend` {'makes such bytes zero' if of_spare else 'takes such arcs out'}.\n"
 
 
 def _verdict(pair):

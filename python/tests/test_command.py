@@ -135,7 +135,7 @@ class WaysToRun(CommandTest):
 class HelpAndVersion(CommandTest):
     def test_help_names_every_command_and_option(self):
         for words, told in (
-            (("--help",), ("usage: feshangul", "plan", "bytes", "text", "--version")),
+            (("--help",), ("usage: feshangul", "plan", "mend", "bytes", "text", "--version")),
             (
                 ("plan", "--help"),
                 (
@@ -152,6 +152,16 @@ class HelpAndVersion(CommandTest):
                 ),
             ),
             (
+                ("mend", "--help"),
+                (
+                    "usage: feshangul mend",
+                    "MESH",
+                    "--bytes",
+                    "--json",
+                    "0 nothing to mend, 1 something was changed or lost, 2 usage or input, 3 refused by number",
+                ),
+            ),
+            (
                 ("bytes", "--help"),
                 ("usage: feshangul bytes", "MESH", "--request K", "--from A", "--to B", "--reach LENGTH", "--allowance N"),
             ),
@@ -165,7 +175,7 @@ class HelpAndVersion(CommandTest):
                     self.assertIn(word, help_text)
 
     def test_version_is_that_of_the_header(self):
-        self.assertEqual(run("--version"), Ran(0, b"feshangul 0.3.0\n", b""))
+        self.assertEqual(run("--version"), Ran(0, b"feshangul 0.4.0\n", b""))
         header = (RELEASE / "feshangul.h").read_text(encoding="utf-8")
         self.assertIn(f'#define FESHANGUL_VERSION "{feshangul.__version__}"\n', header)
 
@@ -179,6 +189,10 @@ class HelpAndVersion(CommandTest):
             (("plan", A, "--rea", "5"), "--rea"),
             (("plan", A, "--from"), "--from"),
             (("text", "--json"), "--json"),
+            (("mend",), "MESH"),
+            (("mend", "--bytes"), "MESH"),
+            (("mend", A, "more"), "more"),
+            (("mend", A, "--why"), "--why"),
         ):
             with self.subTest(words):
                 ran = call(*words)
@@ -490,9 +504,9 @@ class Files(CommandTest):
             ("/proc/self/mem", "Input/output error"),
             ("/dev/zero", "longer than any mesh (1,048,576 bytes)"),
         ):
-            for words in (("plan", file), ("bytes", file), ("text", file), ("text", "--names", file)):
-                with self.subTest(words):
-                    self.assert_told(call(*words, stdin=bytes.fromhex(A_HEX)), f"{file}: {why}")
+            for words in ("plan", "mend", "mend --bytes", "mend --json", "bytes", "text", "text --names"):
+                with self.subTest(words, file=file):
+                    self.assert_told(call(*words.split(), file, stdin=bytes.fromhex(A_HEX)), f"{file}: {why}")
 
     def test_a_file_that_may_not_be_read_is_told(self):
         mesh = self.file(A.read_bytes())
@@ -546,17 +560,18 @@ class Output(CommandTest):
         return run(sys.executable, COMMAND, *words, program=shell, stdin=bytes.fromhex(A_HEX))
 
     def test_a_closed_standard_output_is_told(self):
-        for words in (("plan", A), ("bytes", A), ("text",), ("--help",)):
+        for words in (("plan", A), ("mend", A), ("mend", "--bytes", "-"), ("bytes", A), ("text",), ("--help",)):
             with self.subTest(words):
                 self.assert_told(self.redirected(">&-", *words), "standard output is closed")
 
     def test_a_full_disk_is_told(self):
-        for words in (("plan", A), ("plan", A, "--json"), ("bytes", A), ("text",)):
+        mend = (("mend", A), ("mend", A, "--json"), ("mend", "--bytes", "-"))
+        for words in (("plan", A), ("plan", A, "--json"), *mend, ("bytes", A), ("text",)):
             with self.subTest(words):
                 self.assert_told(self.redirected(">/dev/full", *words), "standard output: No space left on device")
 
     def test_a_full_disk_is_told_by_help_and_version_too(self):
-        for words in (("--help",), ("--version",), ("plan", "--help")):
+        for words in (("--help",), ("--version",), ("plan", "--help"), ("mend", "--help")):
             with self.subTest(words):
                 self.assert_told(self.redirected(">/dev/full", *words), "standard output: No space left on device")
 
@@ -568,9 +583,14 @@ class Output(CommandTest):
         self.assertEqual((ran.status, ran.errors), (2, b"feshangul: standard output: Broken pipe\n"))
 
     def test_a_fault_is_not_written_to_standard_output_where_standard_error_is_closed(self):
-        for words in (("plan", self.folder / "none"), ("frob",), ("plan", A, "--frob")):
+        for words in (("plan", self.folder / "none"), ("mend", self.folder / "none"), ("frob",), ("plan", A, "--frob")):
             with self.subTest(words):
                 self.assertEqual(self.redirected("2>&-", *words), Ran(2, b"", b""))
+
+    def test_a_fault_has_its_status_where_standard_error_is_full(self):
+        for words in (("plan", self.folder / "none"), ("mend", "--bytes", self.folder / "none")):
+            with self.subTest(words):
+                self.assertEqual(self.redirected("2>/dev/full", *words), Ran(2, b"", b""))
 
 
 # ---- hostile words ----
@@ -621,8 +641,11 @@ PLACES_ON_THE_LINE = (
     "plan MESH --allowance {}",
     "plan MESH --request {}",
     "plan MESH --json={}",
+    "mend MESH {}",
+    "mend MESH --{}",
+    "mend MESH --bytes={}",
 )
-PLACES_OF_A_FILE = ("plan {}", "bytes {}", "text {}", "text --names {}")
+PLACES_OF_A_FILE = ("plan {}", "mend {}", "mend --bytes {}", "bytes {}", "text {}", "text --names {}")
 
 
 def raw_controls(ran):
@@ -650,6 +673,7 @@ class HostileWords(CommandTest):
             for word in HOSTILE:
                 with self.subTest(place, word=word):
                     self.assert_harmless(call("plan", "-", stdin=place.replace("{}", word).encode()))
+                    self.assert_harmless(call("mend", "-", stdin=place.replace("{}", word).encode()))
 
     def test_the_command_line_cannot_write_to_the_terminal(self):
         for place in PLACES_ON_THE_LINE + PLACES_OF_A_FILE:

@@ -1,5 +1,6 @@
 """What README.md and docs/MESHES.md show is what the command reads and prints."""
 
+import json
 import re
 import unittest
 
@@ -32,6 +33,21 @@ class Documents(unittest.TestCase):
         _, faulty, printed, *_ = blocks("docs/MESHES.md", "from 0 to 3")
         ran = call("plan", "-", stdin=faulty.encode())
         self.assertEqual((ran.status, ran.output.decode()), (3, printed))
+
+    def test_the_mesh_mended_in_meshes_becomes_what_stands_below_it(self):
+        faulty, printed, command, *_ = blocks("docs/MESHES.md", "from 0 to 2")
+        ran = call("mend", "-", stdin=faulty.encode())
+        self.assertEqual((ran.status, ran.output.decode()), (1, printed))
+        self.assertEqual(call("plan", "-", stdin=printed.encode()).status, 0)
+        self.assertEqual(command, "feshangul mend --bytes operator.bin > clean.bin\n")
+
+    def test_every_field_of_a_mended_mesh_in_json_stands_in_meshes(self):
+        faulty, *_ = blocks("docs/MESHES.md", "from 0 to 2")
+        fields = json.loads(call("mend", "--json", "-", stdin=faulty.encode()).output)
+        table = (REPOSITORY / "docs/MESHES.md").read_text(encoding="utf-8").split("`mend --json` prints")[1]
+        for field in (*fields, *fields["changes"][0], "table"):
+            with self.subTest(field):
+                self.assertIn(f"`{field}`", table)
 
     def test_the_first_command_of_the_readme_prints_what_stands_below_it(self):
         printed, *_ = blocks("README.md", "settled 0 0 4")

@@ -193,14 +193,26 @@ Refused, number 10: no route from source to terminal is within reach.
             reach=2999,
         )
 
-    def test_a_refusal_for_an_arc_is_told_with_its_line(self):
+    def test_a_refusal_for_an_arc_is_told_with_its_line_and_what_mends_it(self):
         self.assert_sheet(
             """\
 From node 0 to node 1, each route within 10 m.
 Refused, number 277: arc 1, line 3: both ends are node 7.
+`feshangul mend` takes such arcs out.
 """,
             "from 0 to 1 reach 10 allowance 1\n0: 0,1,5,{}\n1: 7,7,5,{}\n",
         )
+
+    def test_what_mends_each_fault_of_an_arc_is_told(self):
+        for words, arc in (
+            ("takes such arcs out", "32,1,5,{}"),
+            ("takes such arcs out", "7,7,5,{}"),
+            ("takes such arcs out", "0,1,2000001,{}"),
+            ("makes such bytes zero", "0,1,5,{} spare 7"),
+        ):
+            with self.subTest(arc):
+                found = planned(f"from 0 to 1 reach 10 allowance 1\n0: {arc}\n")
+                self.assertEqual(sheet.words(found).splitlines()[2:], [f"`feshangul mend` {words}."])
 
     def test_europe_within_1649_km_shares_the_rhine_bridge(self):
         found = planned(example("europe.txt"), reach=1_649_000)

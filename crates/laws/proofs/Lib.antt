@@ -1,6 +1,7 @@
 pub mod BoolLaws
 pub mod ListLaws
 pub mod PartLaws
+pub mod RowLaws
 pub mod OrderLaws
 pub mod SortLaws
 pub mod FirstLaws

@@ -106,6 +106,10 @@ module _ {A : Type 0} where
   unfolding keep
   keep-first test a l e = rw (e, keep)
 
+  pub keep-past : (test : A → Bool) (a : A) (l : List A) → test a ≡ false → keep test (a ∷ l) ≡ keep test l
+  unfolding keep
+  keep-past test a l e = rw (e, keep)
+
   pub keep-none : (test : A → Bool) (l : List A) → ((x : A) → List·Memᴰ x l → test x ≡ false) → keep test l ≡ []
   unfolding keep
   keep-none test [] f = refl

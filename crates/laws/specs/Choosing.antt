@@ -1,4 +1,4 @@
--- Choosing: one value or another, those of a list that pass a test, the order of lists, a list in order, the first of a list. Assumes nothing.
+-- Choosing: one value or another, numbers in a row, those of a list that pass a test, the order of lists, a list in order, the first of a list. Assumes nothing.
 use Prim.Native.Nat.{ℕ, zero, suc}
 use mathlib.Core.Bool.{Bool, true, false, _&&_, _||_, not}
 use mathlib.Core.List.{List, [], _∷_, List·Memᴰ}
@@ -13,6 +13,11 @@ if_then_else_ false a b = b
 unfoldable pub leastFrom : (ℕ → Bool) → ℕ → ℕ → ℕ
 leastFrom test zero j = j
 leastFrom test (suc n) j = elim (test j) [ true ↦ j | false ↦ leastFrom test n (suc j) ]
+
+-- n numbers from k on, the lowest first
+unfoldable pub numbersFrom : ℕ → ℕ → List ℕ
+numbersFrom k zero = []
+numbersFrom k (suc n) = k ∷ numbersFrom (suc k) n
 
 -- R holds of each element of a list and every later one
 pub data Pairwise {A : Type 0} (R : A → A → Type 0) : List A → Type 0 where

@@ -1,16 +1,23 @@
 -- Bytes put one after the other are the bytes put together. Assumes nothing.
 use Prim.Native.Nat.{ℕ, suc, _+_, _≤_, _<_}
-use mathlib.Core.List.{List, [], _∷_, _++_, append-assoc}
-use mathlib.Core.Path.{_≡_, refl, sym, ap, ap₂, _∙_}
+use mathlib.Core.List.{List, [], _∷_, _++_, append-nil, append-assoc}
+use mathlib.Core.Path.{_≡_, refl, sym, ap, ap₂, _∙_, subst}
 use native.Mathlib.Nat.{zero-add}
 use native.Mathlib.Numerals.{add-one}
 use native.Mathlib.Omega.{arith}
-use lib.ListN.{length, getD, take, drop, set, length-append, length-drop}
+use lib.ListN.{length, getD, take, drop, set, length-append, length-drop, take-append-drop}
 use lib.Seq.{length-take-le, set-split, take-at, drop-at, append-snoc, drop-drop, take-length, paste, paste-zero, paste-suc, length-paste}
 use Rattle.octets.specs.Puts.{Puts}
 
 pub puts-one : (b : ℕ) (before : List ℕ) (at : ℕ) → at < length before → Puts (b ∷ []) before at (set before at b) (at + 1)
 puts-one b before at h = record { place = refl; holds = rw add-one (set-split before at b h ∙ sym (append-snoc (take at before) b (drop (suc at) before))) }
+
+pub puts-none : (before : List ℕ) (at : ℕ) → Puts [] before at before at
+puts-none before at = record { place = omega arith; holds = sym (take-append-drop at before) ∙ ap (λ (l : List ℕ). l ++ drop at before) (sym (append-nil (take at before))) }
+
+-- the same bytes, said otherwise
+pub puts-as : {xs ys before : List ℕ} {at : ℕ} {after : List ℕ} {n : ℕ} → xs ≡ ys → Puts xs before at after n → Puts ys before at after n
+puts-as {before = before} {at} {after} {n} e p = subst (λ (l : List ℕ). Puts l before at after n) e p
 
 module _ {xs ys before : List ℕ} {at : ℕ} {between : List ℕ} {n : ℕ} {after : List ℕ} {m : ℕ}
     (inside : at ≤ length before) (p : Puts xs before at between n) (q : Puts ys between n after m) where
@@ -74,3 +81,22 @@ module _ {bytes before : List ℕ} {at : ℕ} {after : List ℕ} {i : ℕ} (room
   begun-all {n} size h =
       let e : i ≡ length bytes = omega (arith, b .within) in
       record { place = ap (λ (k : ℕ). at + k) size; holds = b .holds ∙ rw (size, e, take-length) }
+
+-- ---- put part by part
+
+-- of these bytes some are put, from the buffer's beginning on; `left` are the others
+pub record Unfinished (bytes before after : List ℕ) (at : ℕ) (left : List ℕ) : Type 0 where
+  pub done : List ℕ
+  pub put : Puts done before 0 after at
+  pub whole : done ++ left ≡ bytes
+
+pub none-put : {bytes left : List ℕ} (before : List ℕ) → left ≡ bytes → Unfinished bytes before before 0 left
+none-put before e = record { done = []; put = puts-none before 0; whole = e }
+
+module _ {bytes before after : List ℕ} {at : ℕ} {left : List ℕ} (u : Unfinished bytes before after at left) where
+  pub more-put : {part rest after′ : List ℕ} {next : ℕ} → left ≡ part ++ rest → Puts part after at after′ next → Unfinished bytes before after′ next rest
+  more-put {part} {rest} e p =
+      record { done = u .done ++ part; put = puts-next (u .put) p; whole = append-assoc (u .done) part rest ∙ ap (λ (l : List ℕ). u .done ++ l) (sym e) ∙ u .whole }
+
+  pub all-put : left ≡ [] → Puts bytes before 0 after at
+  all-put e = puts-as (sym (append-nil (u .done)) ∙ ap (λ (l : List ℕ). u .done ++ l) (sym e) ∙ u .whole) (u .put)

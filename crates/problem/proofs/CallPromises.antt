@@ -1,19 +1,22 @@
 -- The promises, restated of calls of the entry: what the number returned and the bytes in the buffer must be, and what a second call with a larger allowance must give.
 -- `Called` says what one call does; crates/entry/proofs/Contract.antt shows that the contract of `feshangul_plan` says just that. Assumes nothing.
-use mathlib.Core.Path.{_≡_, sym, ap, _∙_}
+use mathlib.Core.Path.{_≡_, refl, sym, ap, _∙_}
 use mathlib.Core.Bool.{true, false}
 use mathlib.Core.Logic.{_⊎_, _↔_}
-use mathlib.Core.List.{List, List·Memᴰ}
+use mathlib.Core.List.{List, [], List·Memᴰ}
 use Prim.Native.Nat.{ℕ, _+_, _*_, _/_, _%_, _≤_, _<_}
 use native.Mathlib.Omega.{arith}
 use lib.ListN.{length, take, drop}
-use lib.Seq.{take-at}
+use Rattle.laws.specs.Choosing.{Pairwise}
+use lib.Seq.{take-at, take-append-seam, drop-append-seam}
 use Rattle.problem.specs.declared.Request.{Request}
-use Rattle.problem.specs.Table.{mostReach, mostAllowance, replySize, Bytes, arcsOf}
+use Rattle.problem.specs.Table.{mostReach, mostAllowance, replySize, Bytes, over, recordAt, arcsOf}
 use Rattle.problem.specs.Routes.{Route, metresOf}
 use Rattle.problem.specs.Pairs.{pair, sharedRisks, sharedCount, total, judged, NoWorse, ofRank, floor}
 use Rattle.problem.specs.Reply.{answer, after, sharedIn, rankedIn, mainMetresIn, standbyMetresIn, totalIn, sharedRisksIn, mainIn, standbyIn}
 use Rattle.problem.specs.Calls.{routesOf, RouteOf, WayOf, pairMadeOf, pairSaid, allowing, Applies, Told, LowestFault, Called}
+use Rattle.problem.specs.Mending.{mostFieldBytes, Clean, zeroed, mendedTable, Change, mendedList, changesIn, oldNumber, roundedUp, Mending, mending, Mends, KeptAs, lost, Listed}
+use Rattle.problem.proofs.MendCallLaws as MendCallLaws
 use Rattle.problem.proofs.Promises as promised
 
 module _ {table : List ℕ} {q : Request} {before now : List ℕ} {number : ℕ} (c : Called table q before number now) where
@@ -139,3 +142,99 @@ module _ {table : List ℕ} {q : Request} {b : ℕ} {before now later : List ℕ
       let w = promised.never-worse table q (length before) (low c answered) b more permitted in
       let too : second < 2 = omega (arith, d .number-is, w .0) in
       rw (replied c answered, replied d too) (too, w .1, w .2)
+
+-- ==== Request T-01, of calls of the mender
+
+module _ {input table₀ list₀ : List ℕ} {number tableLength listLength : ℕ} {table list : List ℕ} (c : Mends input table₀ list₀ number tableLength listLength table list) where
+  -- the bytes of the mended table, and those of the list
+  abbrev mendedIn : List ℕ
+  mendedIn = take tableLength table
+
+  abbrev listIn : List ℕ
+  listIn = take listLength list
+
+  -- ---- numbers and bytes
+
+  -- 2 exactly where the input is over 4,096 bytes; 13 exactly where it is not, and an output is shorter than the input rounded up to 16; otherwise 0
+  pub mend-two : (number ≡ 2) ↔ (mostFieldBytes < length input)
+  mend-two = rw (c .number-is) (MendCallLaws.two-exactly input (length table₀) (length list₀))
+
+  pub mend-thirteen : (number ≡ 13) ↔ ((length input ≤ mostFieldBytes) × ((length table₀ < roundedUp input) ⊎ (length list₀ < roundedUp input)))
+  mend-thirteen = rw (c .number-is) (MendCallLaws.thirteen-exactly input (length table₀) (length list₀))
+
+  pub mend-zero : (number ≡ 0) ↔ ((length input ≤ mostFieldBytes) × (roundedUp input ≤ length table₀) × (roundedUp input ≤ length list₀))
+  mend-zero = rw (c .number-is) (MendCallLaws.zero-exactly input (length table₀) (length list₀))
+
+  -- a refusal leaves every byte of both outputs, and both lengths are 0
+  pub mend-untouched : (number ≡ 0 → ⊥) → (tableLength ≡ 0) × (listLength ≡ 0) × (table ≡ table₀) × (list ≡ list₀)
+  mend-untouched refused =
+      let none = MendCallLaws.refused-none input (length table₀) (length list₀) (λ z. refused (c .number-is ∙ z)) in
+      (c .table-length ∙ ap length (none .0), c .list-length ∙ ap length (none .1), c .table-is ∙ ap (λ (l : List ℕ). over l table₀) (none .0), c .list-is ∙ ap (λ (l : List ℕ). over l list₀) (none .1))
+
+  -- bytes behind the two lengths stay as they were
+  pub mend-keeps-rest : (drop tableLength table ≡ drop tableLength table₀) × (drop listLength list ≡ drop listLength list₀)
+  mend-keeps-rest =
+      let m = mending input (length table₀) (length list₀) in (
+        rw (c .table-length, c .table-is) (drop-append-seam (m .table) (drop (length (m .table)) table₀)),
+        rw (c .list-length, c .list-is) (drop-append-seam (m .list) (drop (length (m .list)) list₀)),
+      )
+
+  module _ (answered : number ≡ 0) where
+    written : mending input (length table₀) (length list₀) ≡ MendCallLaws.mended input
+    written = MendCallLaws.zero-mended input (length table₀) (length list₀) (sym (c .number-is) ∙ answered)
+
+    few : length input ≤ mostFieldBytes
+    few = mend-zero .0 answered .0
+
+    table-in : mendedIn ≡ mendedTable input
+    table-in =
+        let m = mending input (length table₀) (length list₀) in
+        rw (c .table-length, c .table-is) (take-append-seam (m .table) (drop (length (m .table)) table₀)) ∙ ap (λ (x : Mending). x .table) written
+
+    list-in : listIn ≡ mendedList input
+    list-in =
+        let m = mending input (length table₀) (length list₀) in
+        rw (c .list-length, c .list-is) (take-append-seam (m .list) (drop (length (m .list)) list₀)) ∙ ap (λ (x : Mending). x .list) written
+
+    -- ---- the table
+
+    -- it is clean: at most 2,048 bytes, a multiple of 16, no arc with a fault
+    pub mend-clean : Clean mendedIn
+    mend-clean = rw table-in (promised.mended-clean input)
+
+    -- a clean table comes out unchanged with an empty list, and only a clean one does; the list's length alone tells it, too
+    pub mend-unchanged : Clean input ↔ ((mendedIn ≡ input) × (listIn ≡ []))
+    mend-unchanged = rw (table-in, list-in) (promised.unchanged-exactly input)
+
+    pub mend-unlisted : Clean input ↔ (listLength ≡ 0)
+    mend-unlisted = (
+      λ clean. c .list-length ∙ ap (λ (m : Mending). length (m .list)) written ∙ ap length (promised.unlisted-exactly input .0 clean),
+      λ z. promised.unlisted-exactly input .1 (sym list-in ∙ ap (λ (n : ℕ). take n list) z),
+    )
+
+    -- each arc that is kept is the input's, but for zeroed spare bytes
+    pub mend-kept : (old new : ℕ) → KeptAs input old new → (new < length mendedIn / 16) × (recordAt mendedIn new ≡ zeroed (recordAt input old))
+    mend-kept = rw table-in (promised.kept-record input)
+
+    -- ---- the list
+
+    -- it rises strictly by old number, has a record for each arc changed or lost and for a torn end, and none other
+    pub mend-list-rises : Pairwise (λ (a b : Change). a .old < b .old) (changesIn listIn)
+    mend-list-rises = rw list-in (promised.list-rises input few)
+
+    pub mend-list-exactly : (x : Change) → List·Memᴰ x (changesIn listIn) ↔ Listed input x
+    mend-list-exactly = rw list-in (promised.list-exactly input few)
+
+    -- and a reader gets every old number back
+    pub mend-old-back : (n : ℕ) → n < length mendedIn / 16 → KeptAs input (oldNumber (changesIn listIn) n) n
+    mend-old-back = rw (table-in, list-in) (promised.old-numbers-back input few)
+
+-- a second call, on the table that a first has written and with outputs at least as long: it is not refused, and gives the same table and an empty list
+pub mend-again : {input table₀ list₀ : List ℕ} {n m : ℕ} {table list : List ℕ} → Mends input table₀ list₀ 0 n m table list
+    → {table₁ list₁ : List ℕ} {number k l : ℕ} {again lost : List ℕ} → Mends (take n table) table₁ list₁ number k l again lost → n ≤ length table₁ → n ≤ length list₁
+    → (number ≡ 0) × (take k again ≡ take n table) × (l ≡ 0)
+mend-again {input} {n = n} {table = table} c d t l =
+    let clean = mend-clean c refl in
+    let size : length (take n table) ≡ n = ap length (table-in c refl) ∙ sym (c .table-length ∙ ap (λ (m : Mending). length (m .table)) (written c refl)) in
+    let zero = mend-zero d .1 (omega (arith, clean .few-bytes), omega (arith, clean .whole-arcs), omega (arith, clean .whole-arcs)) in
+    (zero, mend-unchanged d zero .0 clean .0, mend-unlisted d zero .0 clean)

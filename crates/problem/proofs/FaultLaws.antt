@@ -150,7 +150,10 @@ none-sound a none =
 pub sound-arc : (a : Arc) → arcNumber a ≡ 0 → SoundArc a
 sound-arc a z = none-sound a (λ f h. omega (arith, fault-first a h .0))
 
-arc-sound : (a : Arc) → SoundArc a → arcNumber a ≡ 0
+pub fault-sound : (a : Arc) → arcNumber a ≡ 0 → faultOf a ≡ Sound
+fault-sound a z = same-fault {f = faultOf a} {g = Sound} z
+
+pub arc-sound : (a : Arc) → SoundArc a → arcNumber a ≡ 0
 arc-sound a s =
     let no-number : 0 < arcNumber a → ⊥ = λ h. sound-none s (fault-had a (λ z. omega arith)) in
     omega arith

@@ -17,6 +17,9 @@ pub mod CallLaws
 pub mod SaidLaws
 pub mod DigitLaws
 pub mod PrintedLaws
+pub mod MendLaws
+pub mod ChangeLaws
+pub mod MendCallLaws
 pub mod Promises
 pub mod CallPromises
 pub mod GrowthOrder

@@ -17,11 +17,12 @@ use Rattle.problem.specs.declared.Arc.{Arc}
 use Rattle.problem.specs.declared.Fault.{Fault}
 use Rattle.problem.specs.declared.Fault.the-variants.{Sound}
 use Rattle.problem.specs.declared.Request.{Request}
-use Rattle.problem.specs.Table.{mostArcs, riskWidth, mostReach, mostAllowance, replySize, Bytes, arcsOf, SoundArc, HasFault, faultOf, faultNumber, allSound}
+use Rattle.problem.specs.Table.{mostArcs, riskWidth, mostReach, mostAllowance, replySize, Bytes, recordAt, arcsOf, SoundArc, HasFault, faultOf, faultNumber, allSound}
 use Rattle.problem.specs.Routes.{metresOf, IsPath, Route, routeOf, precedes}
 use Rattle.problem.specs.Pairs.{Pair, pair, sharedRisks, sharedCount, total, judged, NoWorse, Step, ofRank, rankedKey, floor, every, leastSettled, ranked}
 use Rattle.problem.specs.Reply.{meshOf, answer, after, verdictIn, sharedIn, floorIn, rankedIn, mainMetresIn, standbyMetresIn, totalIn, sharedRisksIn, mainIn, standbyIn}
 use Rattle.problem.specs.Printed.{kilometres, text, printed, requestOf, Unreadable, output}
+use Rattle.problem.specs.Mending.{mostFieldBytes, Clean, wholeArcs, newNumber, zeroed, mendedTable, Change, mendedList, changesIn, oldNumber, KeptAs, lost, Listed}
 use Rattle.problem.specs.Calls.{routesOf, RouteOf, WayOf, pairMadeOf, pairSaid, allowing, Applies, Told, LowestFault}
 use Rattle.problem.proofs.FaultLaws as FaultLaws
 use Rattle.problem.proofs.PathLaws as PathLaws
@@ -32,6 +33,9 @@ use Rattle.problem.proofs.CallLaws as CallLaws
 use Rattle.problem.proofs.CallLaws.{WithPair, low-number, high-number, refused-told, answered-none, numbered, no-route-exactly, number-known}
 use Rattle.problem.proofs.SaidLaws as Said
 use Rattle.problem.proofs.PrintedLaws as Printed
+use Rattle.problem.proofs.MendLaws as MendLaws
+use Rattle.problem.proofs.ChangeLaws as ChangeLaws
+use Rattle.problem.proofs.MendCallLaws as MendCallLaws
 
 module _ (table : List ℕ) (q : Request) (size : ℕ) where
   -- the number returned, and the bytes written
@@ -231,6 +235,53 @@ sound-exactly a = (λ s f h. FaultLaws.sound-none s h, FaultLaws.none-sound a)
 -- number 9 has ended: no call returns it
 pub never-nine : (table : List ℕ) (q : Request) (size : ℕ) → number table q size ≡ 9 → ⊥
 never-nine table q size e = unknown (inl e) (number-known table q size)
+
+-- ==== Request T-01. "A mender: up to 4,096 bytes in, a clean table out, and, by rising old number, one 16-byte record for each arc changed or lost. A clean table passes unchanged
+-- ==== with an empty list, and mending twice gives the same table as once. Arc numbers shift, so the list must let a reader get every old number back."
+
+module _ (input : List ℕ) where
+  -- what comes out is clean, and the planner refuses it for none of its bytes
+  pub mended-clean : Clean (mendedTable input)
+  mended-clean = MendLaws.table-clean input
+
+  pub mended-planned : (q : Request) (size : ℕ) → let n = answer (mendedTable input) q size .number in (n ≡ 2 → ⊥) × (n ≡ 3 → ⊥) × (n ≤ 10)
+  mended-planned = MendCallLaws.clean-planned mended-clean
+
+  -- a clean table comes out unchanged with an empty list, and only a clean one does; the list alone tells it, too
+  pub unchanged-exactly : Clean input ↔ ((mendedTable input ≡ input) × (mendedList input ≡ []))
+  unchanged-exactly = (λ c. (MendLaws.clean-same input c, ChangeLaws.clean-empty input c), λ same. subst Clean (same .0) mended-clean)
+
+  pub unlisted-exactly : Clean input ↔ (mendedList input ≡ [])
+  unlisted-exactly = (ChangeLaws.clean-empty input, ChangeLaws.empty-clean input)
+
+  -- each arc that is kept is the input's, but for zeroed spare bytes
+  pub kept-record : (old new : ℕ) → KeptAs input old new → (new < length (mendedTable input) / 16) × (recordAt (mendedTable input) new ≡ zeroed (recordAt input old))
+  kept-record old new = MendLaws.kept-record input
+
+  -- kept arcs keep their order
+  pub kept-in-order : (j k m n : ℕ) → KeptAs input j m → KeptAs input k n → j < k → m < n
+  kept-in-order j k m n = MendLaws.kept-rise input
+
+  -- each whole arc is kept, or it is lost and must stand in the list
+  pub kept-or-lost : (k : ℕ) → k < wholeArcs input → KeptAs input k (newNumber input k) ⊎ ((reason : ℕ) × Listed input (lost k reason))
+  kept-or-lost = ChangeLaws.kept-or-lost input
+
+  module _ (few : length input ≤ mostFieldBytes) where
+    -- the list rises strictly by old number
+    pub list-rises : Pairwise (λ (a b : Change). a .old < b .old) (changesIn (mendedList input))
+    list-rises = rw (ChangeLaws.list-says input few) (ChangeLaws.changes-rise input)
+
+    -- has a record for each arc changed or lost and for a torn end, and none other
+    pub list-exactly : (c : Change) → List·Memᴰ c (changesIn (mendedList input)) ↔ Listed input c
+    list-exactly c = rw (ChangeLaws.list-says input few) (λ m. ChangeLaws.listed-out input m, ChangeLaws.listed-in input)
+
+    -- and lets a reader get every old number back: of each arc of the table, the place where it stood
+    pub old-numbers-back : (n : ℕ) → n < length (mendedTable input) / 16 → KeptAs input (oldNumber (changesIn (mendedList input)) n) n
+    old-numbers-back n h = rw (ChangeLaws.list-says input few) (ChangeLaws.old-back input n (omega (arith, MendLaws.table-arcs input)))
+
+-- mending what was mended gives the same table and an empty list
+pub mended-twice : (input : List ℕ) → (mendedTable (mendedTable input) ≡ mendedTable input) × (mendedList (mendedTable input) ≡ [])
+mended-twice input = unchanged-exactly (mendedTable input) .0 (mended-clean input)
 
 -- ==== Of any pair, and of any length
 

@@ -5,6 +5,7 @@ use mathlib.Core.List.{List, [], _∷_, _++_, map}
 use mathlib.Core.Path.{_≡_, refl}
 use native.Mathlib.Omega.{arith}
 use lib.ListN.{length, take, replicate}
+use Rattle.laws.specs.Choosing.{numbersFrom}
 use Rattle.problem.specs.declared.Request.{Request}
 use Rattle.problem.specs.declared.Fault.the-variants.{Sound, Node, EqualEnds, Length, Spare}
 use Rattle.problem.specs.Opened.{opened}
@@ -12,6 +13,7 @@ use Rattle.problem.specs.Table.{nodes, mostArcs, mostShared, mostArcMetr
 use Rattle.problem.specs.Routes.{mesh, Way, paths, FreeWay, freeLengths, shortest}
 use Rattle.problem.specs.Reply.{request, Answer, answer, refuse, sharedIn, floorIn, rankedIn, totalIn, sharedRisksIn, mainIn, standbyIn}
 use Rattle.problem.specs.Calls.{WayOf, allowing, LowestFault}
+use Rattle.problem.specs.Mending.{mendedTable, changeBytes, mendedList, changeIn, changesIn, oldNumber, mending}
 use Rattle.problem.specs.Printed.{kilometres, text, digits, output}
 
 -- an arc as 01 prints it: tail, head, metres, and the field of its risks
@@ -82,11 +84,6 @@ written verdict shared floor ranked mainMetres standbyMetres risks main standby 
           ++ bytesOf 4 ranked ++ bytesOf 4 mainMetres ++ bytesOf 4 standbyMetres ++ 0 ∷ 0 ∷ 0 ∷ 0 ∷ [] ++ bytesOf 8 risks ++ places main ++ places standby;
     }
 
--- n numbers from k on
-abbrev pub numbers : ℕ → ℕ → List ℕ
-numbers k zero = []
-numbers k (suc n) = k ∷ numbers (suc k) n
-
 -- a row of the table: a call, and the answer that 01 gives
 pub record Row : Type 0 where
   pub table : List ℕ
@@ -141,7 +138,7 @@ rows =
     ∷ row meshTie 1 10000 1000 (written 0 0 0 1 1000 1000 0 (0 ∷ []) (2 ∷ []))
     ∷ row meshZero 2 0 1000 (written 0 0 0 1 0 0 0 (0 ∷ 2 ∷ []) (3 ∷ []))
     ∷ row meshRaw 1 10000000 1000 answerRaw
-    ∷ row meshLong 31 62000000 1000000 (written 0 31 31 1 62000000 62000000 2147483647 (numbers 0 31) (numbers 0 31))
+    ∷ row meshLong 31 62000000 1000000 (written 0 31 31 1 62000000 62000000 2147483647 (numbersFrom 0 31) (numbersFrom 0 31))
     ∷ row meshLong 31 61999999 1000000 (refuse 10)
     ∷ []
 
@@ -261,6 +258,95 @@ pub first-faults
     ≡ Node ∷ Node ∷ EqualEnds ∷ Length ∷ Spare ∷ Sound ∷ []
 unfolding opened
 first-faults = refl
+
+-- ---- T-01, mending
+
+-- an arc with its spare bytes as they come
+abbrev pub spareArc : ℕ → ℕ → ℕ → ℕ → ℕ → ℕ → List ℕ
+spareArc tail head low high metres risks = tail ∷ head ∷ low ∷ high ∷ [] ++ bytesOf 4 metres ++ bytesOf 8 risks
+
+-- a record of the list of changes, as the request lays it out: of an arc that is lost, and of one that is kept
+abbrev pub recordLost : ℕ → ℕ → List ℕ
+recordLost old reason = old ∷ 0 ∷ reason ∷ 0 ∷ 255 ∷ 255 ∷ 0 ∷ 0 ∷ 0 ∷ 0 ∷ 0 ∷ 0 ∷ 0 ∷ 0 ∷ 0 ∷ 0 ∷ []
+
+abbrev pub recordKept : ℕ → ℕ → ℕ → List ℕ
+recordKept old reason new = old ∷ 0 ∷ reason ∷ 0 ∷ new ∷ 0 ∷ 0 ∷ 0 ∷ 0 ∷ 0 ∷ 0 ∷ 0 ∷ 0 ∷ 0 ∷ 0 ∷ 0 ∷ []
+
+-- our own: a table from the field with each reason but "past 128": node, equal ends, length, spare, torn end; arcs 0 and 5 are sound, and arc 5 only shifts
+abbrev pub fieldTable : List ℕ
+fieldTable =
+    arc 0 1 1000 1 ++ arc 32 1 1000 2 ++ arc 3 3 1000 4 ++ arc 0 2 2000001 8 ++ spareArc 0 2 7 0 2000000 16 ++ arc 31 3 5 32 ++ 1 ∷ 2 ∷ 3 ∷ []
+
+pub mended-field
+    : mendedTable fieldTable ∷ mendedList fieldTable ∷ []
+    ≡ (arc 0 1 1000 1 ++ arc 0 2 2000000 16 ++ arc 31 3 5 32) ∷ (recordLost 1 1 ++ recordLost 2 2 ++ recordLost 3 3 ++ recordKept 4 4 1 ++ recordLost 6 6) ∷ []
+unfolding opened
+mended-field = refl
+
+-- its old numbers, read back from the list
+pub old-numbers-field : map (oldNumber (changesIn (mendedList fieldTable))) (0 ∷ 1 ∷ 2 ∷ []) ≡ 0 ∷ 4 ∷ 5 ∷ []
+unfolding opened
+old-numbers-field = refl
+
+-- of several reasons the first; spare bytes of 1, of 256 and of 65,535; a head over 31 alone
+pub first-reasons
+    : mendedList (spareArc 32 32 1 0 2000001 0 ++ spareArc 3 3 1 0 2000001 0 ++ spareArc 0 3 1 0 2000001 0 ++ spareArc 0 1 1 0 5 0 ++ spareArc 0 1 0 1 5 0 ++ spareArc 0 1 255 255 5 0 ++ arc 0 32 5 0)
+    ≡ recordLost 0 1 ++ recordLost 1 2 ++ recordLost 2 3 ++ recordKept 3 4 0 ++ recordKept 4 4 1 ++ recordKept 5 4 2 ++ recordLost 6 1
+unfolding opened
+first-reasons = refl
+
+-- 127 arcs in lines
+abbrev pub many : List ℕ
+many = line 1000 0 31 ++ line 1000 0 31 ++ line 1000 0 31 ++ line 1000 0 31 ++ line 1000 0 3
+
+-- behind a lost arc 128 are kept, the last of them with spare bytes made zero; then a fault is told before the limit, and used spare bytes behind it
+pub mended-many
+    : mendedTable (arc 7 7 0 0 ++ many ++ spareArc 0 1 0 9 5 0 ++ arc 0 1 5 0 ++ arc 0 32 5 0 ++ spareArc 0 1 9 0 5 0)
+    ∷ mendedList (arc 7 7 0 0 ++ many ++ spareArc 0 1 0 9 5 0 ++ arc 0 1 5 0 ++ arc 0 32 5 0 ++ spareArc 0 1 9 0 5 0)
+    ∷ []
+    ≡ (many ++ arc 0 1 5 0) ∷ (recordLost 0 2 ++ recordKept 128 4 127 ++ recordLost 129 5 ++ recordLost 130 1 ++ recordLost 131 5) ∷ []
+unfolding opened
+mended-many = refl
+
+-- a clean table comes out as it is with an empty list; so does an input of no bytes; of one under 16 bytes nothing is left but its torn end
+pub mended-clean-ones
+    : map (λ t. mendedTable t ∷ mendedList t ∷ []) (meshA ∷ [] ∷ (9 ∷ []) ∷ [])
+    ≡ (meshA ∷ [] ∷ []) ∷ ([] ∷ [] ∷ []) ∷ ([] ∷ recordLost 0 6 ∷ []) ∷ []
+unfolding opened
+mended-clean-ones = refl
+
+-- a call is refused by 2 before 13; each output is as long as the input rounded up to 16, and 4,096 bytes are not too many
+pub mend-refusals
+    : mending (replicate 4097 0) 0 0 .number
+    ∷ mending (replicate 4096 0) 4095 4096 .number
+    ∷ mending (replicate 4096 0) 4096 4095 .number
+    ∷ mending (replicate 4096 0) 4096 4096 .number
+    ∷ mending (replicate 4081 0) 4095 4096 .number
+    ∷ mending (replicate 4081 0) 4096 4096 .number
+    ∷ mending (replicate 17 0) 32 31 .number
+    ∷ mending (replicate 16 0) 16 16 .number
+    ∷ mending (1 ∷ []) 15 16 .number
+    ∷ mending [] 0 0 .number
+    ∷ []
+    ≡ 2 ∷ 13 ∷ 13 ∷ 0 ∷ 13 ∷ 0 ∷ 13 ∷ 0 ∷ 13 ∷ 0 ∷ []
+unfolding opened
+mend-refusals = refl
+
+-- what a call gives: both outputs, or neither
+pub mend-calls
+    : map (λ m. m .table ∷ m .list ∷ []) (mending fieldTable 112 112 ∷ mending fieldTable 112 111 ∷ [])
+    ≡ (mendedTable fieldTable ∷ mendedList fieldTable ∷ []) ∷ ([] ∷ [] ∷ []) ∷ []
+unfolding opened
+mend-calls = refl
+
+-- a change there and back, no two bytes of it alike
+pub change-bytes : changeBytes (record { old = 513; reason = 3; new = 1284 }) ≡ 1 ∷ 2 ∷ 3 ∷ 0 ∷ 4 ∷ 5 ∷ replicate 10 0
+unfolding opened
+change-bytes = refl
+
+pub change-read : changeIn (1 ∷ 2 ∷ 3 ∷ 9 ∷ 4 ∷ 5 ∷ replicate 10 9) ≡ record { old = 513; reason = 3; new = 1284 }
+unfolding opened
+change-read = refl
 
 -- K: the kilometres of 0, 1, 1,000, 1,001 and 31,984 metres
 pub starred-K : map kilometres (0 ∷ 1 ∷ 1000 ∷ 1001 ∷ 31984 ∷ []) ≡ 0 ∷ 1 ∷ 1 ∷ 2 ∷ 32 ∷ []

@@ -4,6 +4,7 @@ pub mod Routes
 pub mod Pairs
 pub mod Reply
 pub mod Calls
+pub mod Mending
 pub mod Printed
 pub mod Opened
 pub mod Cases

@@ -7,7 +7,7 @@ use lib.Dec.{eqb, ltb}
 use lib.ListN.{length, getD, take, drop, replicate}
 use Rattle.laws.specs.Choosing.{if_then_else_}
 use Rattle.problem.specs.declared.Request.{Request}
-use Rattle.problem.specs.Table.{lastNode, mostReach, mostAllowance, mostTableBytes, replySize, numberAt, bytesOf, arcsOf, arcsNumber, allSound}
+use Rattle.problem.specs.Table.{lastNode, mostReach, mostAllowance, mostTableBytes, replySize, numberAt, bytesOf, over, arcsOf, arcsNumber, allSound}
 use Rattle.problem.specs.Routes.{Mesh, mesh, Route, ranking}
 use Rattle.problem.specs.Pairs.{Pair, sharedRisks, sharedCount, floor, every, best, ranked, verdict}
 
@@ -28,7 +28,7 @@ refuse n = record { number = n; reply = [] }
 
 -- what the buffer then holds: the bytes written, and from there on what it held
 unfoldable pub after : Answer → List ℕ → List ℕ
-after a buffer = a .reply ++ drop (length (a .reply)) buffer
+after a buffer = over (a .reply) buffer
 
 -- the arc numbers, one byte each, then 255 to the end of 32 bytes
 unfoldable pub placesOf : Route → List ℕ

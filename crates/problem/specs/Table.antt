@@ -1,7 +1,7 @@
 -- 01, The span table: the limits, numbers in bytes, the arc of 16 bytes, its faults, the table. Assumes nothing.
 use Prim.Native.Nat.{ℕ, zero, suc, _+_, _*_, _/_, _%_, _≤_, _<_}
 use mathlib.Core.Bool.{Bool, _||_, not}
-use mathlib.Core.List.{List, [], _∷_}
+use mathlib.Core.List.{List, [], _∷_, _++_}
 use mathlib.Core.Path.{_≡_}
 use lib.Dec.{eqb, ltb}
 use lib.ListN.{length, getD, take, drop}
@@ -62,6 +62,14 @@ numberAt bytes at (suc n) = getD bytes at 0 + 256 * numberAt bytes (suc at) n
 unfoldable pub bytesOf : ℕ → ℕ → List ℕ
 bytesOf zero x = []
 bytesOf (suc n) x = x % 256 ∷ bytesOf n (x / 256)
+
+-- bytes written over the beginning of a buffer, which keeps what stands behind them
+abbrev pub over : List ℕ → List ℕ → List ℕ
+over bytes buffer = bytes ++ drop (length bytes) buffer
+
+-- the bytes of record k, of records of 16 bytes one behind another
+abbrev pub recordAt : List ℕ → ℕ → List ℕ
+recordAt bytes k = take 16 (drop (16 * k) bytes)
 
 -- the arc that 16 bytes say
 unfoldable pub arcOf : List ℕ → Arc

@@ -2,6 +2,7 @@
 // Everything else of this crate is definitions (specs/) and what is true of them (proofs/).
 ghost use mathlib.Core.Path.{_≡_};
 ghost use Rattle.problem.specs.Table.{faultNumber};
+ghost use Rattle.problem.specs.Mending.{reasonNumber};
 
 // Nodes are numbered from 0 to LAST_NODE.
 pub const LAST_NODE: u8 = 31;
@@ -25,6 +26,9 @@ pub const ARC_BYTES: usize = 16;
 pub const MOST_TABLE_BYTES: usize = 2048;
 
 pub const MOST_IN_TABLE: usize = MOST_TABLE_BYTES / ARC_BYTES;
+
+// The longest table that is mended (T-01).
+pub const MOST_FIELD_BYTES: usize = 4096;
 
 pub const REPLY_SIZE: usize = 96;
 
@@ -59,6 +63,32 @@ pub fn fault_number(f: Fault) -> u32
         Fault::EqualEnds => 21,
         Fault::Length => 22,
         Fault::Spare => 23,
+    }
+}
+
+// Why an arc of a table from the field is changed or lost in mending, or that it is neither.
+pub enum Reason {
+    Unchanged,
+    BadNode,
+    SameEnds,
+    TooLong,
+    SpareUsed,
+    PastLimit,
+    TornEnd,
+}
+
+// The number of each, as the list of changes has it.
+pub fn reason_number(r: Reason) -> u8
+    ensures { λ n. ⌜ n ≡ reasonNumber r ⌝ }
+{
+    match r {
+        Reason::Unchanged => 0,
+        Reason::BadNode => 1,
+        Reason::SameEnds => 2,
+        Reason::TooLong => 3,
+        Reason::SpareUsed => 4,
+        Reason::PastLimit => 5,
+        Reason::TornEnd => 6,
     }
 }
 

@@ -1,0 +1,51 @@
+-- What is written: the bytes of a change, a record with its spare bytes made zero, a torn end. Assumes nothing.
+use Prim.Native.Nat.{ℕ, _-_, _/_, _%_, _≤_}
+use mathlib.Core.Bool.{Bool, true, false}
+use mathlib.Core.List.{List, [], _∷_, _++_, flatMap, append-nil}
+use mathlib.Core.Path.{_≡_, refl, sym, ap}
+use native.Mathlib.Omega.{arith}
+use lib.Dec.{eqb}
+use lib.ListN.{length, take, drop}
+use lib.Seq.{take-all}
+use borrow.Author.Tests.{eqb-true, eqb-false, eq-eqb, ne-eqb}
+use Rattle.laws.specs.Choosing.{if_then_else_}
+use Rattle.problem.specs.declared.Reason.{Reason}
+use Rattle.problem.specs.declared.Reason.the-variants.{TornEnd}
+use Rattle.problem.specs.Table.{bytesOf}
+use Rattle.problem.specs.Mending.{wholeArcs, zeroed, reasonNumber, isLost, noNumber, changed, tornEnd, changeBytes}
+use Rattle.problem.proofs.ChangeLaws.{change-length}
+use Rattle.mend.specs.Steps.{tornBytes, tornSize}
+
+pub change-written : (old number n : ℕ) (r : Reason) (new : ℕ) → number ≡ reasonNumber r → n ≡ (if isLost r then noNumber else new)
+    → old % 256 ∷ old / 256 % 256 ∷ number ∷ 0 ∷ n % 256 ∷ n / 256 % 256 ∷ 0 ∷ 0 ∷ 0 ∷ 0 ∷ 0 ∷ 0 ∷ 0 ∷ 0 ∷ 0 ∷ 0 ∷ [] ≡ changeBytes (changed old r new)
+unfolding changeBytes bytesOf
+change-written old number n r new e f = rw (e, f)
+
+pub zeroed-written : (b : List ℕ) → length b ≡ 16 → take 2 b ++ bytesOf 2 0 ++ take (length b - 4) (drop 4 b) ≡ zeroed b
+unfolding zeroed bytesOf
+zeroed-written [] h = absurd (omega arith)
+zeroed-written (a ∷ []) h = absurd (omega arith)
+zeroed-written (a ∷ b ∷ []) h = absurd (omega arith)
+zeroed-written (a ∷ b ∷ c ∷ []) h = absurd (omega arith)
+zeroed-written (a ∷ b ∷ c ∷ d ∷ l) h = ap (λ (r : List ℕ). a ∷ b ∷ 0 ∷ 0 ∷ r) (take-all (length (a ∷ b ∷ c ∷ d ∷ l) - 4) l (omega arith))
+
+-- ---- a torn end
+
+module _ (input : List ℕ) where
+  pub torn-none : length input % 16 ≡ 0 → [] ≡ tornBytes input
+  unfolding tornBytes tornEnd flatMap
+  torn-none e = rw (eq-eqb (length input % 16) 0 e)
+
+  pub torn-some : (length input % 16 ≡ 0 → ⊥) → changeBytes (changed (wholeArcs input) TornEnd 0) ≡ tornBytes input
+  unfolding tornBytes tornEnd flatMap
+  torn-some e = rw (ne-eqb (length input % 16) 0 e) (sym (append-nil (changeBytes (changed (wholeArcs input) TornEnd 0))))
+
+  pub torn-room : (length input % 16 ≡ 0 → ⊥) → tornSize input ≡ 16
+  torn-room e = rw (ne-eqb (length input % 16) 0 e)
+
+  pub torn-short : length (tornBytes input) ≤ 16
+  torn-short = go (eqb (length input % 16) 0) refl
+    where
+      go : (b : Bool) → eqb (length input % 16) 0 ≡ b → length (tornBytes input) ≤ 16
+      go true e = omega (arith, ap length (torn-none (eqb-true (length input % 16) 0 e)))
+      go false e = omega (arith, ap length (torn-some (eqb-false (length input % 16) 0 e)), change-length (changed (wholeArcs input) TornEnd 0))

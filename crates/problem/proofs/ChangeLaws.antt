@@ -1,0 +1,389 @@
+-- Mending, the list: read back from its bytes, what stands in it and in which order, and the old number of each arc that is kept. Assumes nothing.
+use mathlib.Core.Path.{_≡_, refl, sym, ap, _∙_, subst}
+use mathlib.Core.Logic.{_⊎_, inl, inr}
+use mathlib.Core.Bool.{Bool, true, false, true≢false, false≢true, and-false}
+use mathlib.Core.List.{List, [], _∷_, _++_, map, flatMap, List·Memᴰ, List·Memᴰ·head, List·Memᴰ·tail, List·Memᴰ·not-nil, List·Memᴰ·append-cases, List·Memᴰ·eq-of-singleton, Memᴰ·cast, Memᴰ·append-left, Memᴰ·append-right, Memᴰ·map, Memᴰ·of-map}
+use Prim.Native.Nat.{ℕ, zero, suc, _+_, _*_, _/_, _%_, _≤_, _<_}
+use native.Mathlib.Omega.{arith}
+use lib.Dec.{eqb, leb, ltb}
+use lib.ListN.{length, getD, length-take}
+use lib.Seq.{getD-take}
+use borrow.Author.Tests.{eqb-true, eqb-false, eq-eqb, ne-eqb, ltb-true, ltb-false, lt-ltb, le-ltb, le-leb, lt-leb}
+use Rattle.laws.specs.Choosing.{numbersFrom, keep, Pairwise}
+use Rattle.laws.proofs.ListLaws.{getD-mem, keep-in, keep-out, keep-none, keep-first, keep-past, length-keep, pairwise-append, pairwise-keep, pairwise-map}
+use Rattle.laws.proofs.RowLaws.{numbers-in, numbers-out, numbers-rise, map-numbers, flat-length, flat-at}
+use Rattle.problem.specs.declared.Fault.{Fault}
+use Rattle.problem.specs.declared.Fault.the-variants.{Sound, Node, EqualEnds, Length, Spare}
+use Rattle.problem.specs.declared.Reason.{Reason}
+use Rattle.problem.specs.declared.Reason.the-variants.{BadNode, SameEnds, TooLong, SpareUsed, PastLimit}
+use Rattle.problem.specs.Table.{mostInTable, numberAt, bytesOf, recordAt, arcsOf, faultNumber, arcNumber}
+use Rattle.problem.specs.Mending.{mostFieldBytes, Clean, wholeArcs, faultAt, mayStay, newNumber, stayingBelow, keptArcs, reasonFor, reasonAt, isListed, isLost, noNumber, Change, changed, tornEnd, changeAt, changesFrom, changes, changeBytes, mendedList, changeIn, changesIn, oldNumber, KeptAs, lost, Listed}
+use Rattle.problem.proofs.FaultLaws.{faultless-number}
+use Rattle.problem.proofs.TableLaws.{arcs-length, arcs-at, number-sound}
+use Rattle.problem.proofs.MendLaws.{new-below, new-more, new-same, kept-at, clean-sound}
+
+-- ---- there and back
+
+-- both numbers fit their two bytes
+pub record Fits (c : Change) : Type 0 where
+  pub old-fits : c .old < 65536
+  pub new-fits : c .new < 65536
+
+pub change-length : (c : Change) → length (changeBytes c) ≡ 16
+unfolding changeBytes bytesOf
+change-length c = refl
+
+change-back : (c : Change) → Fits c → changeIn (changeBytes c) ≡ c
+unfolding changeIn changeBytes numberAt bytesOf
+change-back c f =
+    let old : c .old % 256 + 256 * (c .old / 256 % 256 + 256 * 0) ≡ c .old = omega (arith, f .old-fits) in
+    let new : c .new % 256 + 256 * (c .new / 256 % 256 + 256 * 0) ≡ c .new = omega (arith, f .new-fits) in
+    λ i. record { old = old i; reason = c .reason; new = new i }
+
+list-length : (input : List ℕ) → length (mendedList input) ≡ 16 * length (changes input)
+unfolding mendedList
+list-length input = flat-length 16 changeBytes (changes input) (λ c m. change-length c)
+
+read-back : (cs : List Change) → ((c : Change) → List·Memᴰ c cs → Fits c) → changesIn (flatMap changeBytes cs) ≡ cs
+unfolding changesIn
+read-back cs fit =
+    let size : length (flatMap changeBytes cs) / 16 ≡ length cs = omega (arith, flat-length 16 changeBytes cs (λ c m. change-length c)) in
+    ap (λ (n : ℕ). map (λ k. changeIn (recordAt (flatMap changeBytes cs) k)) (numbersFrom 0 n)) size
+    ∙ map-numbers (lost 0 0) (λ k. changeIn (recordAt (flatMap changeBytes cs) k)) cs (λ i h.
+    ap changeIn (flat-at 16 changeBytes (lost 0 0) cs (λ c m. change-length c) i h) ∙ change-back _ (fit _ (getD-mem (lost 0 0) cs i h)))
+
+-- a lost arc at x or before it puts x one further on; a kept one, or one behind x, leaves it where it is
+old-lost : (c : Change) (cs : List Change) (x : ℕ) → c .new ≡ noNumber → c .old ≤ x → oldNumber (c ∷ cs) x ≡ oldNumber cs (suc x)
+unfolding oldNumber
+old-lost c cs x e h = rw (le-leb (c .old) x h, eq-eqb (c .new) noNumber e)
+
+old-kept : (c : Change) (cs : List Change) (x : ℕ) → (c .new ≡ noNumber → ⊥) → oldNumber (c ∷ cs) x ≡ oldNumber cs x
+unfolding oldNumber
+old-kept c cs x e = rw (ne-eqb (c .new) noNumber e, and-false (leb (c .old) x))
+
+old-later : (cs : List Change) (x : ℕ) → ((c : Change) → List·Memᴰ c cs → x < c .old) → oldNumber cs x ≡ x
+unfolding oldNumber
+old-later [] x f = refl
+old-later (c ∷ cs) x f = rw (lt-leb (c .old) x (f c (List·Memᴰ·head refl))) (old-later cs x (λ d m. f d (List·Memᴰ·tail m)))
+
+-- ---- the reason of one arc
+
+-- what is removed is lost, and stands in the list
+pub removed-lost : (f : Fault) (n : ℕ) → mayStay f ≡ false → (isLost (reasonFor f n) ≡ true) × (isListed (reasonFor f n) ≡ true)
+removed-lost Node n e = (refl, refl)
+removed-lost EqualEnds n e = (refl, refl)
+removed-lost Length n e = (refl, refl)
+removed-lost Spare n e = absurd (true≢false e)
+removed-lost Sound n e = absurd (true≢false e)
+
+-- what stays within the limit is kept, and what stays past it is lost
+pub kept-reason : (f : Fault) (n : ℕ) → mayStay f ≡ true → n < mostInTable → isLost (reasonFor f n) ≡ false
+kept-reason Node n e h = absurd (false≢true e)
+kept-reason EqualEnds n e h = absurd (false≢true e)
+kept-reason Length n e h = absurd (false≢true e)
+kept-reason Spare n e h = rw (lt-ltb n mostInTable h)
+kept-reason Sound n e h = rw (lt-ltb n mostInTable h)
+
+pub past-reason : (f : Fault) (n : ℕ) → mayStay f ≡ true → mostInTable ≤ n → reasonFor f n ≡ PastLimit
+past-reason Node n e h = absurd (false≢true e)
+past-reason EqualEnds n e h = absurd (false≢true e)
+past-reason Length n e h = absurd (false≢true e)
+past-reason Spare n e h = rw (le-ltb n mostInTable h)
+past-reason Sound n e h = rw (le-ltb n mostInTable h)
+
+-- ---- the list of one input
+
+module _ (input : List ℕ) where
+  -- whether arc k has a change, and whether it stays
+  abbrev listed : ℕ → Bool
+  listed k = isListed (reasonAt input k)
+
+  abbrev stays : ℕ → Bool
+  stays k = mayStay (faultAt input k)
+
+  -- a change of one of m arcs from k on
+  record ChangeOf (k m : ℕ) (c : Change) : Type 0 where
+    at : ℕ
+    from : k ≤ at
+    below : at < k + m
+    has : listed at ≡ true
+    is : changeAt input at ≡ c
+
+  change-of : (k m : ℕ) {c : Change} → List·Memᴰ c (changesFrom input k m) → ChangeOf k m c
+  change-of k m x =
+      let o = Memᴰ·of-map (changeAt input) (keep listed (numbersFrom k m)) x in
+      let kept = keep-out listed (numbersFrom k m) (o .1) in
+      let inside = numbers-out k m (kept .0) in
+      record { at = o .0; from = inside .0; below = inside .1; has = kept .1; is = o .2 }
+
+  -- those of whole arcs stand in the list as the request says
+  listed-by : (k : ℕ) → k < wholeArcs input → (f : Fault) → faultAt input k ≡ f → isListed (reasonFor f (newNumber input k)) ≡ true
+      → Listed input (changed k (reasonFor f (newNumber input k)) (newNumber input k))
+  listed-by k h Node e l = Listed.bad-node k h e
+  listed-by k h EqualEnds e l = Listed.equal-ends k h e
+  listed-by k h Length e l = Listed.bad-length k h e
+  listed-by k h Spare e l = go (ltb (newNumber input k) mostInTable) refl
+    where
+      go : (b : Bool) → ltb (newNumber input k) mostInTable ≡ b → Listed input (changed k (reasonFor Spare (newNumber input k)) (newNumber input k))
+      go true t = rw t (Listed.spare-zeroed k (newNumber input k) (record { is-whole = h; may-stay = ap mayStay e; in-turn = refl; has-room = ltb-true _ _ t }) e)
+      go false t = rw t (Listed.past-limit k h (ap mayStay e) (ltb-false _ _ t))
+  listed-by k h Sound e l = go (ltb (newNumber input k) mostInTable) refl l
+    where
+      go : (b : Bool) → ltb (newNumber input k) mostInTable ≡ b → isListed (reasonFor Sound (newNumber input k)) ≡ true → Listed input (changed k (reasonFor Sound (newNumber input k)) (newNumber input k))
+      go true t l = absurd (false≢true (rw t at l))
+      go false t l = rw t (Listed.past-limit k h (ap mayStay e) (ltb-false _ _ t))
+
+  torn-out : {c : Change} → List·Memᴰ c (tornEnd input) → (c ≡ lost (wholeArcs input) 6) × (length input % 16 ≡ 0 → ⊥)
+  unfolding tornEnd
+  torn-out {c} m = go (eqb (length input % 16) 0) refl m
+    where
+      go : (b : Bool) → eqb (length input % 16) 0 ≡ b → List·Memᴰ c (tornEnd input) → (c ≡ lost (wholeArcs input) 6) × (length input % 16 ≡ 0 → ⊥)
+      go true e m = absurd (List·Memᴰ·not-nil (rw e at m))
+      go false e m = (List·Memᴰ·eq-of-singleton (rw e at m), eqb-false _ _ e)
+
+  pub listed-out : {c : Change} → List·Memᴰ c (changes input) → Listed input c
+  unfolding changes
+  listed-out {c} m = go (List·Memᴰ·append-cases (changesFrom input 0 (wholeArcs input)) m)
+    where
+      go : List·Memᴰ c (changesFrom input 0 (wholeArcs input)) ⊎ List·Memᴰ c (tornEnd input) → Listed input c
+      go (inl q) =
+          let o = change-of 0 (wholeArcs input) q in
+          subst (Listed input) (o .is) (listed-by (o .at) (omega (arith, o .below)) (faultAt input (o .at)) refl (o .has))
+      go (inr q) = let t = torn-out q in subst (Listed input) (sym (t .0)) (Listed.torn-end (t .1))
+
+  -- and what the request says stands in the list
+  listed-whole : (k : ℕ) → k < wholeArcs input → {r : Reason} → reasonAt input k ≡ r → isListed r ≡ true → List·Memᴰ (changed k r (newNumber input k)) (changes input)
+  unfolding changes
+  listed-whole k h {r} e l =
+      Memᴰ·append-left (tornEnd input)
+      (Memᴰ·cast (ap (λ (s : Reason). changed k s (newNumber input k)) (sym e))
+      (Memᴰ·map (changeAt input) (keep-in listed (numbersFrom 0 (wholeArcs input)) (numbers-in 0 (wholeArcs input) (omega arith) (omega arith)) (ap isListed e ∙ l))))
+
+  by-fault : (k : ℕ) {f : Fault} → faultAt input k ≡ f → reasonAt input k ≡ reasonFor f (newNumber input k)
+  by-fault k e = ap (λ (g : Fault). reasonFor g (newNumber input k)) e
+
+  pub listed-in : {c : Change} → Listed input c → List·Memᴰ c (changes input)
+  unfolding tornEnd changes
+  listed-in (Listed.bad-node k h e) = listed-whole k h {r = BadNode} (by-fault k e) refl
+  listed-in (Listed.equal-ends k h e) = listed-whole k h {r = SameEnds} (by-fault k e) refl
+  listed-in (Listed.bad-length k h e) = listed-whole k h {r = TooLong} (by-fault k e) refl
+  listed-in (Listed.spare-zeroed k new a e) =
+      let room : newNumber input k < mostInTable = omega (arith, a .in-turn, a .has-room) in
+      Memᴰ·cast (ap (λ (n : ℕ). record { old = k; reason = 4; new = n }) (sym (a .in-turn)))
+      (listed-whole k (a .is-whole) {r = SpareUsed} (by-fault k e ∙ rw (lt-ltb (newNumber input k) mostInTable room)) refl)
+  listed-in (Listed.past-limit k h s p) = listed-whole k h {r = PastLimit} (past-reason (faultAt input k) (newNumber input k) s p) refl
+  listed-in (Listed.torn-end t) = Memᴰ·append-right (changesFrom input 0 (wholeArcs input)) (rw (ne-eqb (length input % 16) 0 t) (List·Memᴰ·head refl))
+
+  -- no old number is past that of a torn end
+  listed-below : {c : Change} → List·Memᴰ c (changesFrom input 0 (wholeArcs input)) → c .old < wholeArcs input
+  listed-below m =
+      let o = change-of 0 (wholeArcs input) m in
+      omega (arith, ap (λ (c : Change). c .old) (o .is), o .below)
+
+  -- the list rises by old number
+  pub changes-rise : Pairwise (λ (a b : Change). a .old < b .old) (changes input)
+  unfolding changes tornEnd
+  changes-rise =
+      pairwise-append (tornEnd input)
+      (pairwise-map (changeAt input) (λ a b l c e. omega (arith, l, ap (λ (x : Change). x .old) e)) (pairwise-keep listed (numbers-rise 0 (wholeArcs input))))
+      (one (eqb (length input % 16) 0) refl)
+      (λ a b p q. omega (arith, listed-below p, ap (λ (c : Change). c .old) (torn-out q .0)))
+    where
+      one : (t : Bool) → eqb (length input % 16) 0 ≡ t → Pairwise (λ (a b : Change). a .old < b .old) (tornEnd input)
+      one true e = rw e Pairwise.none
+      one false e = rw e (Pairwise.one (λ b m. absurd (List·Memᴰ·not-nil m)) Pairwise.none)
+
+  -- every change fits its record
+  listed-fits : length input ≤ mostFieldBytes → {c : Change} → Listed input c → Fits c
+  listed-fits s (Listed.bad-node k h e) = record { old-fits = omega arith; new-fits = omega arith }
+  listed-fits s (Listed.equal-ends k h e) = record { old-fits = omega arith; new-fits = omega arith }
+  listed-fits s (Listed.bad-length k h e) = record { old-fits = omega arith; new-fits = omega arith }
+  listed-fits s (Listed.spare-zeroed k new a e) = record { old-fits = omega (arith, a .is-whole); new-fits = omega (arith, a .has-room) }
+  listed-fits s (Listed.past-limit k h e p) = record { old-fits = omega arith; new-fits = omega arith }
+  listed-fits s (Listed.torn-end t) = record { old-fits = omega arith; new-fits = omega arith }
+
+  -- so the bytes say the changes
+  pub list-says : length input ≤ mostFieldBytes → changesIn (mendedList input) ≡ changes input
+  unfolding mendedList
+  list-says s = read-back (changes input) (λ c m. listed-fits s (listed-out m))
+
+  -- ---- back to the old numbers
+
+  -- those of m arcs from k on, and what stands behind them
+  abbrev onFrom : ℕ → ℕ → List Change → List Change
+  onFrom k m behind = changesFrom input k m ++ behind
+
+  on-rises : (m k : ℕ) (behind : List Change) → ((c : Change) → List·Memᴰ c behind → k + m ≤ c .old) → (c : Change) → List·Memᴰ c (onFrom k m behind) → k ≤ c .old
+  on-rises m k behind after c x = go (List·Memᴰ·append-cases (changesFrom input k m) x)
+    where
+      go : List·Memᴰ c (changesFrom input k m) ⊎ List·Memᴰ c behind → k ≤ c .old
+      go (inl q) =
+          let o = change-of k m q in
+          omega (arith, ap (λ (d : Change). d .old) (o .is), o .from)
+      go (inr q) = omega (arith, after c q)
+
+  -- an arc that is removed puts what is at it or behind it one further on
+  past-removed : (m k x : ℕ) (behind : List Change) → stays k ≡ false → k ≤ x → oldNumber (onFrom k (suc m) behind) x ≡ oldNumber (onFrom (suc k) m behind) (suc x)
+  unfolding numbersFrom
+  past-removed m k x behind e h =
+      let r = removed-lost (faultAt input k) (newNumber input k) e in
+      ap (λ (l : List ℕ). oldNumber (map (changeAt input) l ++ behind) x) (keep-first listed k (numbersFrom (suc k) m) (r .1))
+      ∙ old-lost (changeAt input k) (onFrom (suc k) m behind) x (rw (r .0)) h
+
+  -- one that is kept leaves it where it is
+  past-kept : (m k x : ℕ) (behind : List Change) → stays k ≡ true → newNumber input k < mostInTable → oldNumber (onFrom k (suc m) behind) x ≡ oldNumber (onFrom (suc k) m behind) x
+  unfolding numbersFrom keep
+  past-kept m k x behind e room = go (listed k) refl
+    where
+      new : changeAt input k .new ≡ newNumber input k
+      new = rw (kept-reason (faultAt input k) (newNumber input k) e room)
+
+      go : (b : Bool) → listed k ≡ b → oldNumber (onFrom k (suc m) behind) x ≡ oldNumber (onFrom (suc k) m behind) x
+      go true l = rw (l, keep) (old-kept (changeAt input k) (onFrom (suc k) m behind) x (λ z. omega (arith, new)))
+      go false l = rw (l, keep)
+
+  -- of those that stay among m arcs from k on, the one d places on
+  abbrev stayingOn : ℕ → ℕ → ℕ → ℕ
+  stayingOn k m d = getD (keep stays (numbersFrom k m)) d 0
+
+  -- it is found from k + d on, where the limit is not yet reached
+  abbrev Found : List Change → ℕ → ℕ → Type 0
+  Found behind k m = (d : ℕ) → d < length (keep stays (numbersFrom k m)) → newNumber input (stayingOn k m d) < mostInTable → oldNumber (onFrom k m behind) (k + d) ≡ stayingOn k m d
+
+  found-on : (behind : List Change) (m k : ℕ) → ((c : Change) → List·Memᴰ c behind → k + m ≤ c .old) → Found behind k m
+  unfolding numbersFrom
+  found-on behind zero k after d h room = absurd (none h)
+    where
+      none : d < length (keep stays []) → ⊥
+      none l = omega (arith, length-keep stays [])
+  found-on behind (suc m) k after d h room = go (stays k) refl d h room (found-on behind m (suc k) (λ c x. omega (arith, after c x)))
+    where
+      rest : List ℕ
+      rest = keep stays (numbersFrom (suc k) m)
+
+      removed : rest ≡ keep stays (k ∷ numbersFrom (suc k) m) → stays k ≡ false → Found behind (suc k) m → (d : ℕ) → d < length rest → newNumber input (getD rest d 0) < mostInTable → oldNumber (onFrom k (suc m) behind) (k + d) ≡ getD rest d 0
+      removed is e ih d h room =
+          let next : suc (k + d) ≡ suc k + d = omega arith in
+          past-removed m k (k + d) behind e (omega arith) ∙ ap (oldNumber (onFrom (suc k) m behind)) next ∙ ih d h room
+
+      kept : stays k ≡ true → Found behind (suc k) m → (d : ℕ) → d < length (k ∷ rest) → newNumber input (getD (k ∷ rest) d 0) < mostInTable → oldNumber (onFrom k (suc m) behind) (k + d) ≡ getD (k ∷ rest) d 0
+      kept e ih zero h room =
+          let here : k + 0 ≡ k = omega arith in
+          past-kept m k (k + 0) behind e room
+          ∙ ap (oldNumber (onFrom (suc k) m behind)) here
+          ∙ old-later (onFrom (suc k) m behind) k (on-rises m (suc k) behind (λ c x. omega (arith, after c x)))
+      kept e ih (suc d) h room =
+          let next : k + suc d ≡ suc k + d = omega arith in
+          let inside : d < length rest = omega arith in
+          let later = numbers-out (suc k) m (keep-out stays (numbersFrom (suc k) m) (getD-mem 0 rest d inside) .0) .0 in
+          past-kept m k (k + suc d) behind e (omega (arith, new-more input {j = k} {k = getD rest d 0} (omega (arith, later))))
+          ∙ ap (oldNumber (onFrom (suc k) m behind)) next
+          ∙ ih d inside room
+
+      go : (b : Bool) → stays k ≡ b → (d : ℕ) → d < length (keep stays (k ∷ numbersFrom (suc k) m)) → newNumber input (getD (keep stays (k ∷ numbersFrom (suc k) m)) d 0) < mostInTable → Found behind (suc k) m
+          → oldNumber (onFrom k (suc m) behind) (k + d) ≡ getD (keep stays (k ∷ numbersFrom (suc k) m)) d 0
+      go true e d h room ih =
+          let is = keep-first stays k (numbersFrom (suc k) m) e in
+          subst (λ (l : List ℕ). d < length l → newNumber input (getD l d 0) < mostInTable → oldNumber (onFrom k (suc m) behind) (k + d) ≡ getD l d 0) (sym is) (kept e ih d) h room
+      go false e d h room ih =
+          let is = keep-past stays k (numbersFrom (suc k) m) e in
+          subst (λ (l : List ℕ). d < length l → newNumber input (getD l d 0) < mostInTable → oldNumber (onFrom k (suc m) behind) (k + d) ≡ getD l d 0) (sym is) (removed (sym is) e ih d) h room
+
+  -- each arc of the table is found where it stood
+  old-is : (i : ℕ) → i < length (keptArcs input) → oldNumber (changes input) i ≡ getD (keptArcs input) i 0
+  unfolding keptArcs stayingBelow changes
+  old-is i h =
+      let all = numbersFrom 0 (wholeArcs input) in
+      let few = length-take mostInTable (keep stays all) in
+      let same = getD-take mostInTable (keep stays all) i 0 (omega (arith, few)) in
+      let k = kept-at input i h in
+      let here : i ≡ 0 + i = omega arith in
+      ap (oldNumber (changes input)) here
+      ∙ found-on (tornEnd input) (wholeArcs input) 0 (λ c m. omega (arith, ap (λ (d : Change). d .old) (torn-out m .0))) i (omega (arith, few))
+      (omega (arith, ap (newNumber input) same, k .in-turn, k .has-room))
+      ∙ sym same
+
+  pub old-back : (i : ℕ) → i < length (keptArcs input) → KeptAs input (oldNumber (changes input) i) i
+  old-back i h = subst (λ (old : ℕ). KeptAs input old i) (sym (old-is i h)) (kept-at input i h)
+
+  -- an arc is kept, or it is lost and stands in the list
+  pub kept-or-lost : (k : ℕ) → k < wholeArcs input → KeptAs input k (newNumber input k) ⊎ ((reason : ℕ) × Listed input (lost k reason))
+  kept-or-lost k h = go (faultAt input k) refl
+    where
+      staying : stays k ≡ true → (b : Bool) → ltb (newNumber input k) mostInTable ≡ b → KeptAs input k (newNumber input k) ⊎ ((reason : ℕ) × Listed input (lost k reason))
+      staying e true t = inl (record { is-whole = h; may-stay = e; in-turn = refl; has-room = ltb-true _ _ t })
+      staying e false t = inr (5, Listed.past-limit k h e (ltb-false _ _ t))
+
+      go : (f : Fault) → faultAt input k ≡ f → KeptAs input k (newNumber input k) ⊎ ((reason : ℕ) × Listed input (lost k reason))
+      go Node e = inr (1, Listed.bad-node k h e)
+      go EqualEnds e = inr (2, Listed.equal-ends k h e)
+      go Length e = inr (3, Listed.bad-length k h e)
+      go Spare e = staying (ap mayStay e) (ltb (newNumber input k) mostInTable) refl
+      go Sound e = staying (ap mayStay e) (ltb (newNumber input k) mostInTable) refl
+
+  -- ---- an empty list
+
+  clean-unlisted : Clean input → changes input ≡ []
+  unfolding changes tornEnd
+  clean-unlisted clean =
+      rw (
+        eq-eqb (length input % 16) 0 (clean .whole-arcs),
+        keep-none listed (numbersFrom 0 (wholeArcs input)) (λ k m.
+            let h : k < wholeArcs input = omega (arith, numbers-out 0 (wholeArcs input) m .1) in
+            rw (clean-sound input clean k h, lt-ltb (newNumber input k) mostInTable (omega (arith, clean .few-bytes, new-below input k)))),
+      )
+
+  module _ (none : (c : Change) → Listed input c → ⊥) where
+    unlisted-whole : length input % 16 ≡ 0
+    unlisted-whole = go (eqb (length input % 16) 0) refl
+      where
+        go : (b : Bool) → eqb (length input % 16) 0 ≡ b → length input % 16 ≡ 0
+        go true e = eqb-true _ _ e
+        go false e = absurd (none _ (Listed.torn-end (eqb-false _ _ e)))
+
+    unlisted-kept : (k : ℕ) → k < wholeArcs input → KeptAs input k (newNumber input k)
+    unlisted-kept k h = go (kept-or-lost k h)
+      where
+        go : KeptAs input k (newNumber input k) ⊎ ((reason : ℕ) × Listed input (lost k reason)) → KeptAs input k (newNumber input k)
+        go (inl a) = a
+        go (inr l) = absurd (none _ (l .1))
+
+    unlisted-sound : (k : ℕ) → k < wholeArcs input → faultAt input k ≡ Sound
+    unlisted-sound k h = go (faultAt input k) refl
+      where
+        go : (f : Fault) → faultAt input k ≡ f → f ≡ Sound
+        go Node e = absurd (none _ (Listed.bad-node k h e))
+        go EqualEnds e = absurd (none _ (Listed.equal-ends k h e))
+        go Length e = absurd (none _ (Listed.bad-length k h e))
+        go Spare e = absurd (none _ (Listed.spare-zeroed k _ (unlisted-kept k h) e))
+        go Sound e = refl
+
+    unlisted-few : wholeArcs input ≤ mostInTable
+    unlisted-few = go (ltb mostInTable (wholeArcs input)) refl
+      where
+        go : (b : Bool) → ltb mostInTable (wholeArcs input) ≡ b → wholeArcs input ≤ mostInTable
+        go false e = ltb-false _ _ e
+        go true e =
+            let over = ltb-true mostInTable (wholeArcs input) e in
+            omega (arith, unlisted-kept mostInTable over .has-room, new-same input mostInTable (λ j l. unlisted-kept j (omega arith) .may-stay))
+
+    unlisted-clean : Clean input
+    unlisted-clean = record {
+      few-bytes = omega (arith, unlisted-few, unlisted-whole);
+      whole-arcs = unlisted-whole;
+      sound = number-sound (arcsOf input) (faultless-number (arcsOf input) (λ j b.
+          let h : j < wholeArcs input = omega (arith, arcs-length input) in
+          ap arcNumber (arcs-at input j (omega arith)) ∙ ap faultNumber (unlisted-sound j h)));
+    }
+
+  -- the list is empty exactly where there is no change
+  pub clean-empty : Clean input → mendedList input ≡ []
+  unfolding mendedList flatMap
+  clean-empty clean = rw (clean-unlisted clean)
+
+  pub empty-clean : mendedList input ≡ [] → Clean input
+  empty-clean e = unlisted-clean (λ c l. gone (changes input) (listed-in l) (omega (arith, list-length input, ap length e)))
+    where
+      gone : {c : Change} (cs : List Change) → List·Memᴰ c cs → length cs ≡ 0 → ⊥
+      gone [] m z = List·Memᴰ·not-nil m
+      gone (d ∷ cs) m z = omega arith

@@ -1,0 +1,166 @@
+"""A mesh mended: what the proved mender keeps of it, and what it changed or lost, by number, by line and in words."""
+
+from __future__ import annotations
+
+from bisect import bisect_left
+from dataclasses import asdict, dataclass, replace
+from itertools import groupby
+
+from . import records, rules
+from .fault import hold_reply
+from .library import planner
+from .mesh import Mesh
+
+
+@dataclass(frozen=True)
+class Change:
+    """An arc that was changed or lost, or a torn end: its old number, the reason (rules.MEND_REASONS), its new number, None
+    where it is lost, the line where it stood, None where there are no lines, and words."""
+
+    old: int
+    reason: int
+    new: int | None
+    line: int | None
+    words: str
+
+
+@dataclass(frozen=True)
+class Mended:
+    """The mesh as it came, what is left of it, and the changes by rising old number: none where it was clean."""
+
+    given: Mesh
+    mesh: Mesh
+    changes: tuple[Change, ...]
+
+    number = 0
+
+    @property
+    def old_numbers(self):
+        """For each arc of the mended mesh, in turn, the number that it had."""
+        return _old_numbers(self.changes, len(self.mesh.arcs))
+
+    @property
+    def shifts(self):
+        """The kept arcs that have another number, in runs of neighbours: each the first and last old number and the first
+        and last new one. Whatever stands in no run and is not lost has the number that it had."""
+        arcs = enumerate(self.old_numbers)  # new number, old number
+        runs = [list(run) for shift, run in groupby(arcs, lambda arc: arc[1] - arc[0]) if shift]
+        return [(run[0][1], run[-1][1], run[0][0], run[-1][0]) for run in runs]
+
+
+@dataclass(frozen=True)
+class MendRefusal:
+    """A mesh that the mender does not take: the number, and the words for it."""
+
+    given: Mesh
+    number: int
+    words: str
+
+
+def mend(mesh):
+    """Asks the proved mender for the mesh without what the planner would refuse of its arcs: a Mended or a MendRefusal."""
+    return _mended(mesh, records.put_table(mesh.arcs))
+
+
+def mend_table(sent):
+    """The same for a table as operators send it: the bytes of its arcs and nothing before them, whose end may be torn."""
+    whole = len(sent) - len(sent) % rules.RECORD_BYTES
+    return _mended(Mesh(records.get_table(sent[:whole])), sent)
+
+
+def old_number(changes, new):
+    """The number that arc `new` of the mended mesh had: each arc lost at or before it puts it one further on."""
+    for change in changes:
+        if change.new is None and change.old <= new:
+            new += 1
+    return new
+
+
+def _old_numbers(changes, kept):
+    return [old_number(changes, new) for new in range(kept)]
+
+
+def _mended(mesh, sent):
+    """The reply is held against the mesh on the way, to the last byte: whatever fits is what the mender is proved to give."""
+    number, table, listed = planner().mend(sent)
+    if number != 0:
+        return MendRefusal(mesh, number, rules.MEND_REFUSALS.get(number, "a number that this version does not know"))
+    for what, found in (("table", table), ("list", listed)):
+        hold_reply(len(found) % rules.RECORD_BYTES == 0, f"a {what} of {len(found)} bytes")
+    kept = _old_numbers(records.get_list(listed), len(table) // rules.RECORD_BYTES)
+    changes = _changes(mesh, len(sent) % rules.RECORD_BYTES, kept)
+    mended = _with_arcs(mesh, [replace(mesh.arcs[old], spare=0) for old in kept])
+    hold_reply(listed == records.put_list(changes), "another list than that of its arcs")
+    hold_reply(table == records.put_table(mended.arcs), "another arc than that of its number")
+    return Mended(mesh, mended, changes)
+
+
+def _changes(mesh, torn, kept):
+    """What is changed or lost where the arcs with these old numbers are kept: they have to be those with no reason to go."""
+    reasons = [rules.mend_reason(arc, bisect_left(kept, old)) for old, arc in enumerate(mesh.arcs)]
+    staying = [old for old, reason in enumerate(reasons) if reason is None or reason[0] == rules.SPARE_ZEROED]
+    hold_reply(kept == staying, "other arcs than are to be kept")
+    new_numbers = {old: new for new, old in enumerate(kept)}
+    lines = [arc.line for arc in mesh.arcs]
+    if torn:
+        reasons.append(rules.torn_reason(torn))
+        lines.append(None)
+    return tuple(
+        Change(old, reason[0], new_numbers.get(old), lines[old], reason[1]) for old, reason in enumerate(reasons) if reason
+    )
+
+
+def _with_arcs(mesh, arcs):
+    """The mesh with no arcs but these, and with those of its spans that still have one."""
+    spans = sorted({arc.span for arc in arcs} - {None})
+    arcs = (replace(arc, span=None if arc.span is None else spans.index(arc.span)) for arc in arcs)
+    return replace(mesh, arcs=tuple(arcs), spans=tuple(mesh.spans[span] for span in spans))
+
+
+# ---- in words ----
+
+
+def words(found):
+    """What was changed or lost, and which numbers shifted, a line each."""
+    if not found.changes:
+        return [f"Nothing to mend: {_all_clean(found)}."]
+    return [_summary(found), *map(_changed, found.changes), *(_shifted(*run) for run in found.shifts)]
+
+
+def _all_clean(found):
+    arcs = len(found.given.arcs)
+    return {0: "there is no arc", 1: "the only arc is clean"}.get(arcs, f"all {arcs} arcs are clean")
+
+
+def _summary(found):
+    arcs, kept = len(found.given.arcs), len(found.mesh.arcs)
+    reasons = [change.reason for change in found.changes]
+    counts = ((arcs - kept, "lost"), (reasons.count(rules.SPARE_ZEROED), "changed"))
+    parts = " and ".join(f"{count} {'is' if count == 1 else 'are'} {what}" for count, what in counts if count)
+    of_arcs = f"of {arcs} arc{'' if arcs == 1 else 's'} {parts}" if parts else _all_clean(found)
+    return f"Mended: {of_arcs}{'; a torn end is lost' if rules.LOST_TORN in reasons else ''}."
+
+
+def _changed(change):
+    place = f"arc {change.old}" if change.line is None else f"line {change.line}, arc {change.old}"
+    if change.new is None:
+        return f"{place}: lost: {change.words}"
+    return f"{place}{'' if change.new == change.old else f', now arc {change.new}'}: {change.words}"
+
+
+def _shifted(first_old, last_old, first_new, last_new):
+    if first_old == last_old:
+        return f"Arc {first_old} is now arc {first_new}."
+    return f"Arcs {first_old} to {last_old} are now arcs {first_new} to {last_new}."
+
+
+# ---- as data ----
+
+
+def data(found):
+    """The same as plain dictionaries and lists, for JSON (docs/MESHES.md has each field)."""
+    fields = {"number": found.number, "arcs": len(found.given.arcs)}
+    if not isinstance(found, Mended):
+        return fields | {"words": found.words}
+    changes = [asdict(change) for change in found.changes]
+    return fields | {"kept": len(found.mesh.arcs), "changes": changes, "old_numbers": found.old_numbers}
