@@ -13,6 +13,7 @@ use Rattle.problem.specs.declared.Reason.{Reason}
 use Rattle.problem.specs.declared.Reason.the-variants.{TornEnd}
 use Rattle.problem.specs.Table.{bytesOf}
 use Rattle.problem.specs.Mending.{wholeArcs, zeroed, reasonNumber, isLost, noNumber, changed, tornEnd, changeBytes}
+use Rattle.problem.proofs.MendLaws.{Headed, record-headed}
 use Rattle.problem.proofs.ChangeLaws.{change-length}
 use Rattle.mend.specs.Steps.{tornBytes, tornSize}
 
@@ -23,11 +24,10 @@ change-written old number n r new e f = rw (e, f)
 
 pub zeroed-written : (b : List ℕ) → length b ≡ 16 → take 2 b ++ bytesOf 2 0 ++ take (length b - 4) (drop 4 b) ≡ zeroed b
 unfolding zeroed bytesOf
-zeroed-written [] h = absurd (omega arith)
-zeroed-written (a ∷ []) h = absurd (omega arith)
-zeroed-written (a ∷ b ∷ []) h = absurd (omega arith)
-zeroed-written (a ∷ b ∷ c ∷ []) h = absurd (omega arith)
-zeroed-written (a ∷ b ∷ c ∷ d ∷ l) h = ap (λ (r : List ℕ). a ∷ b ∷ 0 ∷ 0 ∷ r) (take-all (length (a ∷ b ∷ c ∷ d ∷ l) - 4) l (omega arith))
+zeroed-written b h = go (record-headed b h)
+  where
+    go : {b : List ℕ} → Headed b → take 2 b ++ bytesOf 2 0 ++ take (length b - 4) (drop 4 b) ≡ zeroed b
+    go (Headed.headed tail head low high rest) = ap (λ (r : List ℕ). tail ∷ head ∷ 0 ∷ 0 ∷ r) (take-all (length (tail ∷ head ∷ low ∷ high ∷ rest) - 4) rest (omega arith))
 
 -- ---- a torn end
 

@@ -242,31 +242,28 @@ module _ (input : List ℕ) where
       go true l = rw (l, keep) (old-kept (changeAt input k) (onFrom (suc k) m behind) x (λ z. omega (arith, new)))
       go false l = rw (l, keep)
 
-  -- of those that stay among m arcs from k on, the one d places on
-  abbrev stayingOn : ℕ → ℕ → ℕ → ℕ
-  stayingOn k m d = getD (keep stays (numbersFrom k m)) d 0
+  -- of the arcs in l, the one d places on is found from k + d on, where the limit is not yet reached
+  abbrev FoundAmong : List ℕ → List Change → (k m d : ℕ) → Type 0
+  FoundAmong l behind k m d = d < length l → newNumber input (getD l d 0) < mostInTable → oldNumber (onFrom k m behind) (k + d) ≡ getD l d 0
 
-  -- it is found from k + d on, where the limit is not yet reached
-  abbrev Found : List Change → ℕ → ℕ → Type 0
-  Found behind k m = (d : ℕ) → d < length (keep stays (numbersFrom k m)) → newNumber input (stayingOn k m d) < mostInTable → oldNumber (onFrom k m behind) (k + d) ≡ stayingOn k m d
+  -- of those that stay among m arcs from k on, each is
+  abbrev Found : List Change → (k m : ℕ) → Type 0
+  Found behind k m = (d : ℕ) → FoundAmong (keep stays (numbersFrom k m)) behind k m d
 
   found-on : (behind : List Change) (m k : ℕ) → ((c : Change) → List·Memᴰ c behind → k + m ≤ c .old) → Found behind k m
   unfolding numbersFrom
-  found-on behind zero k after d h room = absurd (none h)
-    where
-      none : d < length (keep stays []) → ⊥
-      none l = omega (arith, length-keep stays [])
-  found-on behind (suc m) k after d h room = go (stays k) refl d h room (found-on behind m (suc k) (λ c x. omega (arith, after c x)))
+  found-on behind zero k after = λ d h room. absurd (omega (arith, h, length-keep stays []))
+  found-on behind (suc m) k after = go (stays k) refl (found-on behind m (suc k) (λ c x. omega (arith, after c x)))
     where
       rest : List ℕ
       rest = keep stays (numbersFrom (suc k) m)
 
-      removed : rest ≡ keep stays (k ∷ numbersFrom (suc k) m) → stays k ≡ false → Found behind (suc k) m → (d : ℕ) → d < length rest → newNumber input (getD rest d 0) < mostInTable → oldNumber (onFrom k (suc m) behind) (k + d) ≡ getD rest d 0
-      removed is e ih d h room =
+      removed : stays k ≡ false → Found behind (suc k) m → (d : ℕ) → FoundAmong rest behind k (suc m) d
+      removed e ih d h room =
           let next : suc (k + d) ≡ suc k + d = omega arith in
           past-removed m k (k + d) behind e (omega arith) ∙ ap (oldNumber (onFrom (suc k) m behind)) next ∙ ih d h room
 
-      kept : stays k ≡ true → Found behind (suc k) m → (d : ℕ) → d < length (k ∷ rest) → newNumber input (getD (k ∷ rest) d 0) < mostInTable → oldNumber (onFrom k (suc m) behind) (k + d) ≡ getD (k ∷ rest) d 0
+      kept : stays k ≡ true → Found behind (suc k) m → (d : ℕ) → FoundAmong (k ∷ rest) behind k (suc m) d
       kept e ih zero h room =
           let here : k + 0 ≡ k = omega arith in
           past-kept m k (k + 0) behind e room
@@ -280,14 +277,9 @@ module _ (input : List ℕ) where
           ∙ ap (oldNumber (onFrom (suc k) m behind)) next
           ∙ ih d inside room
 
-      go : (b : Bool) → stays k ≡ b → (d : ℕ) → d < length (keep stays (k ∷ numbersFrom (suc k) m)) → newNumber input (getD (keep stays (k ∷ numbersFrom (suc k) m)) d 0) < mostInTable → Found behind (suc k) m
-          → oldNumber (onFrom k (suc m) behind) (k + d) ≡ getD (keep stays (k ∷ numbersFrom (suc k) m)) d 0
-      go true e d h room ih =
-          let is = keep-first stays k (numbersFrom (suc k) m) e in
-          subst (λ (l : List ℕ). d < length l → newNumber input (getD l d 0) < mostInTable → oldNumber (onFrom k (suc m) behind) (k + d) ≡ getD l d 0) (sym is) (kept e ih d) h room
-      go false e d h room ih =
-          let is = keep-past stays k (numbersFrom (suc k) m) e in
-          subst (λ (l : List ℕ). d < length l → newNumber input (getD l d 0) < mostInTable → oldNumber (onFrom k (suc m) behind) (k + d) ≡ getD l d 0) (sym is) (removed (sym is) e ih d) h room
+      go : (b : Bool) → stays k ≡ b → Found behind (suc k) m → (d : ℕ) → FoundAmong (keep stays (k ∷ numbersFrom (suc k) m)) behind k (suc m) d
+      go true e ih d = subst (λ (l : List ℕ). FoundAmong l behind k (suc m) d) (sym (keep-first stays k (numbersFrom (suc k) m) e)) (kept e ih d)
+      go false e ih d = subst (λ (l : List ℕ). FoundAmong l behind k (suc m) d) (sym (keep-past stays k (numbersFrom (suc k) m) e)) (removed e ih d)
 
   -- each arc of the table is found where it stood
   old-is : (i : ℕ) → i < length (keptArcs input) → oldNumber (changes input) i ≡ getD (keptArcs input) i 0

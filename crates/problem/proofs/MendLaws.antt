@@ -27,32 +27,40 @@ use Rattle.problem.proofs.TableLaws.{arcs-length, arcs-at, number-sound
 abbrev spareless : Arc → Arc
 spareless a = record { tail = a .tail; head = a .head; spare = 0; metres = a .metres; risks = a .risks }
 
+-- a record begins with its ends and its spare bytes
+pub data Headed : List ℕ → Type 0 where
+  headed : (tail head low high : ℕ) (rest : List ℕ) → Headed (tail ∷ head ∷ low ∷ high ∷ rest)
+
+pub record-headed : (b : List ℕ) → length b ≡ 16 → Headed b
+record-headed [] h = absurd (omega arith)
+record-headed (a ∷ []) h = absurd (omega arith)
+record-headed (a ∷ b ∷ []) h = absurd (omega arith)
+record-headed (a ∷ b ∷ c ∷ []) h = absurd (omega arith)
+record-headed (a ∷ b ∷ c ∷ d ∷ l) h = Headed.headed a b c d l
+
 pub zeroed-length : (b : List ℕ) → length b ≡ 16 → length (zeroed b) ≡ 16
 unfolding zeroed
-zeroed-length [] h = absurd (omega arith)
-zeroed-length (a ∷ []) h = absurd (omega arith)
-zeroed-length (a ∷ b ∷ []) h = absurd (omega arith)
-zeroed-length (a ∷ b ∷ c ∷ []) h = absurd (omega arith)
-zeroed-length (a ∷ b ∷ c ∷ d ∷ l) h = h
+zeroed-length b h = go (record-headed b h) h
+  where
+    go : {b : List ℕ} → Headed b → length b ≡ 16 → length (zeroed b) ≡ 16
+    go (Headed.headed tail head low high rest) h = h
 
 zeroed-arc : (b : List ℕ) → length b ≡ 16 → arcOf (zeroed b) ≡ spareless (arcOf b)
 unfolding zeroed arcOf numberAt
-zeroed-arc [] h = absurd (omega arith)
-zeroed-arc (a ∷ []) h = absurd (omega arith)
-zeroed-arc (a ∷ b ∷ []) h = absurd (omega arith)
-zeroed-arc (a ∷ b ∷ c ∷ []) h = absurd (omega arith)
-zeroed-arc (a ∷ b ∷ c ∷ d ∷ l) h = refl
+zeroed-arc b h = go (record-headed b h)
+  where
+    go : {b : List ℕ} → Headed b → arcOf (zeroed b) ≡ spareless (arcOf b)
+    go (Headed.headed tail head low high rest) = refl
 
-pub zeroed-same : (b : List ℕ) → length b ≡ 16 → arcOf b .spare ≡ 0 → zeroed b ≡ b
+zeroed-same : (b : List ℕ) → length b ≡ 16 → arcOf b .spare ≡ 0 → zeroed b ≡ b
 unfolding zeroed arcOf numberAt
-zeroed-same [] h e = absurd (omega arith)
-zeroed-same (a ∷ []) h e = absurd (omega arith)
-zeroed-same (a ∷ b ∷ []) h e = absurd (omega arith)
-zeroed-same (a ∷ b ∷ c ∷ []) h e = absurd (omega arith)
-zeroed-same (a ∷ b ∷ c ∷ d ∷ l) h e =
-    let low : 0 ≡ c = omega arith in
-    let high : 0 ≡ d = omega arith in
-    ap₂ (λ (x y : ℕ). a ∷ b ∷ x ∷ y ∷ l) low high
+zeroed-same b h = go (record-headed b h)
+  where
+    go : {b : List ℕ} → Headed b → arcOf b .spare ≡ 0 → zeroed b ≡ b
+    go (Headed.headed tail head low high rest) e =
+        let low-zero : 0 ≡ low = omega arith in
+        let high-zero : 0 ≡ high = omega arith in
+        ap₂ (λ (x y : ℕ). tail ∷ head ∷ x ∷ y ∷ rest) low-zero high-zero
 
 -- what stays has no fault but its spare bytes
 stays-number : (f : Fault) → mayStay f ≡ true → (faultNumber f < 20) ⊎ (22 < faultNumber f)
@@ -63,19 +71,18 @@ stays-number Sound e = inl (omega arith)
 stays-number Spare e = inr (omega arith)
 
 stays-sound : (a : Arc) → mayStay (faultOf a) ≡ true → SoundArc (spareless a)
-stays-sound a e = none-sound (spareless a) (λ f h. none (stays-number (faultOf a) e) h)
+stays-sound a e = none-sound (spareless a) (λ f h. none (stays-number (faultOf a) e) (early h))
   where
-    none : (arcNumber a < 20) ⊎ (22 < arcNumber a) → {f : Fault} → HasFault (spareless a) f → ⊥
-    none (inl l) (HasFault.tail-too-high h) = omega (arith, fault-first a (HasFault.tail-too-high h) .0)
-    none (inl l) (HasFault.head-too-high h) = omega (arith, fault-first a (HasFault.head-too-high h) .0)
-    none (inl l) (HasFault.ends-equal h) = omega (arith, fault-first a (HasFault.ends-equal h) .0)
-    none (inl l) (HasFault.too-long h) = omega (arith, fault-first a (HasFault.too-long h) .0)
-    none (inl l) (HasFault.spare-used h) = h refl
-    none (inr l) (HasFault.tail-too-high h) = omega (arith, fault-first a (HasFault.tail-too-high h) .1)
-    none (inr l) (HasFault.head-too-high h) = omega (arith, fault-first a (HasFault.head-too-high h) .1)
-    none (inr l) (HasFault.ends-equal h) = omega (arith, fault-first a (HasFault.ends-equal h) .1)
-    none (inr l) (HasFault.too-long h) = omega (arith, fault-first a (HasFault.too-long h) .1)
-    none (inr l) (HasFault.spare-used h) = h refl
+    early : {f : Fault} → HasFault (spareless a) f → (20 ≤ arcNumber a) × (arcNumber a ≤ 22)
+    early (HasFault.tail-too-high h) = let first = fault-first a (HasFault.tail-too-high h) in (first .0, omega (arith, first .1))
+    early (HasFault.head-too-high h) = let first = fault-first a (HasFault.head-too-high h) in (first .0, omega (arith, first .1))
+    early (HasFault.ends-equal h) = let first = fault-first a (HasFault.ends-equal h) in (first .0, omega (arith, first .1))
+    early (HasFault.too-long h) = fault-first a (HasFault.too-long h)
+    early (HasFault.spare-used h) = absurd (h refl)
+
+    none : (arcNumber a < 20) ⊎ (22 < arcNumber a) → (20 ≤ arcNumber a) × (arcNumber a ≤ 22) → ⊥
+    none (inl l) p = omega (arith, p .0)
+    none (inr l) p = omega (arith, p .1)
 
 -- ---- records one behind another
 
