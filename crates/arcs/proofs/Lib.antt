@@ -1,2 +1,1 @@
-pub mod Picks
 pub mod ArcLaws

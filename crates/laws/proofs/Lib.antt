@@ -1,4 +1,5 @@
 pub mod BoolLaws
+pub mod Picks
 pub mod ListLaws
 pub mod PartLaws
 pub mod RowLaws

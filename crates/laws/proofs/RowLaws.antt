@@ -79,21 +79,19 @@ module _ (test : ℕ → Bool) where
       let here : 0 + x ≡ x = omega arith in
       ap (numbersFrom 0) more ∙ numbers-append 0 x 1 ∙ ap (λ (j : ℕ). numbersFrom 0 x ++ j ∷ []) here
 
-  pub passing-next : (x : ℕ) → test x ≡ true → passing (suc x) ≡ suc (passing x)
-  unfolding keep
-  passing-next x e =
+  passing-step : (x : ℕ) → passing (suc x) ≡ passing x + length (keep test (x ∷ []))
+  passing-step x =
       ap (λ (l : List ℕ). length (keep test l)) (numbers-next x)
       ∙ ap length (keep-append test (numbersFrom 0 x) (x ∷ []))
       ∙ length-append (keep test (numbersFrom 0 x)) (keep test (x ∷ []))
-      ∙ rw (e, keep) (omega arith)
+
+  pub passing-next : (x : ℕ) → test x ≡ true → passing (suc x) ≡ suc (passing x)
+  unfolding keep
+  passing-next x e = passing-step x ∙ rw (e, keep) (omega arith)
 
   pub passing-same : (x : ℕ) → test x ≡ false → passing (suc x) ≡ passing x
   unfolding keep
-  passing-same x e =
-      ap (λ (l : List ℕ). length (keep test l)) (numbers-next x)
-      ∙ ap length (keep-append test (numbersFrom 0 x) (x ∷ []))
-      ∙ length-append (keep test (numbersFrom 0 x)) (keep test (x ∷ []))
-      ∙ rw (e, keep) (omega arith)
+  passing-same x e = passing-step x ∙ rw (e, keep) (omega arith)
 
   pub passing-more : {x y : ℕ} → x ≤ y → passing x ≤ passing y
   passing-more {x} {y} h =

@@ -1,13 +1,9 @@
 -- From the ends of a call to what the definitions give. Assumes nothing.
-use Prim.Native.Nat.{ℕ, zero, suc, _+_, _%_, _≤_}
-use mathlib.Core.Bool.{Bool, true, false}
+use Prim.Native.Nat.{ℕ, zero, suc, _+_, _≤_}
 use mathlib.Core.List.{List, _++_}
 use mathlib.Core.Path.{_≡_, refl, sym, ap, _∙_}
 use native.Mathlib.Omega.{arith}
-use lib.Dec.{eqb}
 use lib.ListN.{length}
-use borrow.Author.Tests.{eqb-false}
-use Rattle.laws.specs.Choosing.{if_then_else_}
 use Rattle.laws.proofs.RowLaws.{flat-append}
 use Rattle.problem.specs.Table.{mostTableBytes, over}
 use Rattle.problem.specs.Reply.{firstNumber}
@@ -17,7 +13,7 @@ use Rattle.problem.proofs.MendCallLaws.{mend-fits, zero-exactly}
 use Rattle.octets.specs.Puts.{Puts}
 use Rattle.octets.proofs.PutLaws.{puts-as, puts-next, puts-whole, puts-length}
 use Rattle.mend.specs.declared.Done.{Done}
-use Rattle.mend.specs.Steps.{listFrom, tornBytes, tornSize, Roomy, AllStepped}
+use Rattle.mend.specs.Steps.{listFrom, tornBytes, Roomy, AllStepped}
 use Rattle.mend.proofs.WrittenLaws.{torn-short}
 
 -- what a call does that gives this
@@ -47,21 +43,16 @@ roomy {input} {n} {m} e =
 
 module _ {input table₀ table list₀ list : List ℕ} {done : Done} (room : Roomy input (length table₀) (length list₀)) (all : AllStepped input done table₀ table list₀ list) where
   -- there is room for a torn end
-  pub torn-fits : done .list + tornSize input ≤ length list
-  torn-fits = go (eqb (length input % 16) 0) refl
-    where
-      same : length list ≡ length list₀
-      same = puts-length (omega (arith, all .list-short, room .list-room)) (all .list-put)
-
-      go : (b : Bool) → eqb (length input % 16) 0 ≡ b → done .list + (if b then 0 else 16) ≤ length list
-      go true e = omega (arith, same, all .list-short, room .list-room)
-      go false e = let torn = eqb-false (length input % 16) 0 e in omega (arith, same, all .list-short, room .list-room)
+  pub torn-fits : done .list + length (tornBytes input) ≤ length list
+  torn-fits =
+      let same = puts-length (omega (arith, all .list-short, room .list-room)) (all .list-put) in
+      omega (arith, same, torn-short input, all .list-short, room .list-room)
 
   -- both lengths fit their words
   pub table-fits : done .table ≤ mostTableBytes
   table-fits = omega (arith, all .table-put .place, table-clean input .few-bytes)
 
-  pub list-fits : {end : ℕ} {list′ : List ℕ} → Puts (tornBytes input) list (done .list) list′ end → end ≤ mostFieldBytes + 16
+  pub list-fits : {end : ℕ} {list′ : List ℕ} → Puts (tornBytes input) list (done .list) list′ end → end ≤ mostFieldBytes
   list-fits torn = omega (arith, torn .place, torn-short input, all .list-short, room .few)
 
   -- the changes of whole arcs, and that of a torn end

@@ -1,28 +1,25 @@
 -- One arc mended: what the calls answer is what the arc adds to the outputs, and at most one record to each. Assumes nothing.
-use Prim.Native.Nat.{ℕ, _+_, _*_, _-_, _≤_, _<_}
+use Prim.Native.Nat.{ℕ, _+_, _≤_, _<_}
 use mathlib.Core.Bool.{Bool, true, false}
 use mathlib.Core.List.{List, []}
 use mathlib.Core.Path.{_≡_, refl, ap, _∙_}
 use native.Mathlib.Omega.{arith}
-use lib.ListN.{length, take, drop}
+use lib.ListN.{length}
 use Rattle.laws.specs.Choosing.{if_then_else_}
 use Rattle.problem.specs.declared.Fault.{Fault}
 use Rattle.problem.specs.declared.Reason.{Reason}
 use Rattle.problem.specs.Table.{recordAt, arcsOf, faultOf}
 use Rattle.problem.specs.Routes.{arcAt}
-use Rattle.problem.specs.Mending.{wholeArcs, faultAt, mayStay, newNumber, zeroed, reasonFor, reasonAt, isListed, isLost, changed, changeAt, changeBytes}
+use Rattle.problem.specs.Mending.{wholeArcs, faultAt, mayStay, stays, newNumber, zeroed, reasonFor, reasonAt, isListed, isLost, changed, isChanged, changeAt, changeBytes}
 use Rattle.problem.proofs.TableLaws.{arcs-at}
 use Rattle.problem.proofs.MendLaws.{zeroed-length, whole-record, new-stays, new-removed}
 use Rattle.problem.proofs.ChangeLaws.{change-length}
 use Rattle.mend.specs.Steps.{tablePart, listPart}
 
 module _ (input : List ℕ) {k : ℕ} (inside : k < wholeArcs input) where
-  -- the fault that is found, and the part of the input that is handed on
+  -- the fault that is found
   pub fault-is : {f : Fault} → f ≡ faultOf (arcAt (arcsOf input) k) → f ≡ faultAt input k
   fault-is e = e ∙ ap faultOf (arcs-at input k (omega arith))
-
-  pub part-is : take (16 * k + 16 - 16 * k) (drop (16 * k) input) ≡ recordAt input k
-  part-is = let sixteen : 16 * k + 16 - 16 * k ≡ 16 = omega arith in rw sixteen
 
   pub reason-is : {f : Fault} {n : ℕ} {r : Reason} → r ≡ reasonFor f n → f ≡ faultAt input k → n ≡ newNumber input k → r ≡ reasonAt input k
   reason-is {f} {n} e is new = e ∙ ap (λ (g : Fault). reasonFor g n) is ∙ ap (reasonFor (faultAt input k)) new
@@ -46,7 +43,7 @@ module _ (input : List ℕ) {k : ℕ} (inside : k < wholeArcs input) where
 
   pub list-part-short : length (listPart input k) ≤ 16
   unfolding listPart
-  list-part-short = go (isListed (reasonAt input k))
+  list-part-short = go (isChanged input k)
     where
       go : (b : Bool) → length (if b then changeBytes (changeAt input k) else []) ≤ 16
       go true = omega (arith, change-length (changeAt input k))
@@ -54,11 +51,11 @@ module _ (input : List ℕ) {k : ℕ} (inside : k < wholeArcs input) where
 
 -- how many stay then
 pub staying-next : (input : List ℕ) (k : ℕ) {f : Fault} {n m : ℕ} → m ≡ (if mayStay f then n + 1 else n) → f ≡ faultAt input k → n ≡ newNumber input k → m ≡ newNumber input (k + 1)
-staying-next input k {f} {n} {m} e is new = e ∙ go (mayStay (faultAt input k)) refl
+staying-next input k {f} {n} {m} e is new = e ∙ go (stays input k) refl
   where
-    same : mayStay f ≡ mayStay (faultAt input k)
+    same : mayStay f ≡ stays input k
     same = ap mayStay is
 
-    go : (b : Bool) → mayStay (faultAt input k) ≡ b → (if mayStay f then n + 1 else n) ≡ newNumber input (k + 1)
+    go : (b : Bool) → stays input k ≡ b → (if mayStay f then n + 1 else n) ≡ newNumber input (k + 1)
     go true t = rw (same ∙ t) (omega (arith, new-stays input k t))
     go false t = rw (same ∙ t) (omega (arith, new-removed input k t))

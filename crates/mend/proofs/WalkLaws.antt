@@ -12,7 +12,7 @@ use borrow.Author.Tests.{ltb-true, ltb-false}
 use Rattle.laws.specs.Choosing.{if_then_else_, numbersFrom, keep}
 use Rattle.laws.proofs.ListLaws.{keep-first, keep-past}
 use Rattle.problem.specs.Table.{mostInTable, recordAt}
-use Rattle.problem.specs.Mending.{wholeArcs, faultAt, mayStay, stayingBelow, newNumber, keptArcs, zeroed, mendedTable, reasonAt, isListed, isLost, changeAt, changeBytes}
+use Rattle.problem.specs.Mending.{wholeArcs, faultAt, stays, stayingBelow, newNumber, keptArcs, zeroed, mendedTable, reasonAt, isLost, isChanged, changeAt, changeBytes}
 use Rattle.problem.proofs.MendLaws.{new-stays, new-removed}
 use Rattle.problem.proofs.ChangeLaws.{removed-lost, kept-reason, past-reason}
 use Rattle.octets.proofs.PutLaws.{Unfinished, none-put, more-put, all-put, puts-length}
@@ -21,16 +21,13 @@ use Rattle.mend.specs.Steps.{tablePart, listPart, listFrom, Ready, Stepp
 use Rattle.mend.proofs.StepLaws.{table-part-short, list-part-short}
 
 module _ (input : List ℕ) where
-  abbrev stays : ℕ → Bool
-  stays k = mayStay (faultAt input k)
-
   -- the records of some arcs, one behind the other
   join : List ℕ → List ℕ
   join = flatMap (λ j. zeroed (recordAt input j))
 
   -- what the m arcs from k on add to the table
   pub tableFrom : ℕ → ℕ → List ℕ
-  tableFrom k m = join (take (mostInTable - newNumber input k) (keep stays (numbersFrom k m)))
+  tableFrom k m = join (take (mostInTable - newNumber input k) (keep (stays input) (numbersFrom k m)))
 
   part-lost : (k : ℕ) → isLost (reasonAt input k) ≡ true → tablePart input k ≡ []
   unfolding tablePart
@@ -41,29 +38,29 @@ module _ (input : List ℕ) where
   part-kept k e = rw e
 
   -- those behind arc k, by how many stay up to it
-  from-next : (k m : ℕ) {n : ℕ} → newNumber input (k + 1) ≡ n → tableFrom (k + 1) m ≡ join (take (mostInTable - n) (keep stays (numbersFrom (suc k) m)))
+  from-next : (k m : ℕ) {n : ℕ} → newNumber input (k + 1) ≡ n → tableFrom (k + 1) m ≡ join (take (mostInTable - n) (keep (stays input) (numbersFrom (suc k) m)))
   unfolding tableFrom
   from-next k m {n} e =
-      ap (λ (x : ℕ). join (take (mostInTable - x) (keep stays (numbersFrom (k + 1) m)))) e
-      ∙ ap (λ (j : ℕ). join (take (mostInTable - n) (keep stays (numbersFrom j m)))) (add-one k)
+      ap (λ (x : ℕ). join (take (mostInTable - x) (keep (stays input) (numbersFrom (k + 1) m)))) e
+      ∙ ap (λ (j : ℕ). join (take (mostInTable - n) (keep (stays input) (numbersFrom j m)))) (add-one k)
 
   -- arc k first
   table-next : (k m : ℕ) → tableFrom k (suc m) ≡ tablePart input k ++ tableFrom (k + 1) m
   unfolding tableFrom join numbersFrom flatMap
-  table-next k m = go (stays k) refl (ltb (newNumber input k) mostInTable) refl
+  table-next k m = go (stays input k) refl (ltb (newNumber input k) mostInTable) refl
     where
       new : ℕ
       new = newNumber input k
 
       rest : List ℕ
-      rest = keep stays (numbersFrom (suc k) m)
+      rest = keep (stays input) (numbersFrom (suc k) m)
 
-      first : stays k ≡ true → tableFrom k (suc m) ≡ join (take (mostInTable - new) (k ∷ rest))
-      first e = ap (λ (l : List ℕ). join (take (mostInTable - new) l)) (keep-first stays k (numbersFrom (suc k) m) e)
+      first : stays input k ≡ true → tableFrom k (suc m) ≡ join (take (mostInTable - new) (k ∷ rest))
+      first e = ap (λ (l : List ℕ). join (take (mostInTable - new) l)) (keep-first (stays input) k (numbersFrom (suc k) m) e)
 
-      go : (b : Bool) → stays k ≡ b → (t : Bool) → ltb new mostInTable ≡ t → tableFrom k (suc m) ≡ tablePart input k ++ tableFrom (k + 1) m
+      go : (b : Bool) → stays input k ≡ b → (t : Bool) → ltb new mostInTable ≡ t → tableFrom k (suc m) ≡ tablePart input k ++ tableFrom (k + 1) m
       go false e t f =
-          ap (λ (l : List ℕ). join (take (mostInTable - new) l)) (keep-past stays k (numbersFrom (suc k) m) e)
+          ap (λ (l : List ℕ). join (take (mostInTable - new) l)) (keep-past (stays input) k (numbersFrom (suc k) m) e)
           ∙ sym (ap₂ (λ (x y : List ℕ). x ++ y) (part-lost k (removed-lost (faultAt input k) new e .0)) (from-next k m (new-removed input k e)))
       go true e true f =
           let room = ltb-true new mostInTable f in
@@ -81,17 +78,14 @@ module _ (input : List ℕ) where
 
   list-next : (k m : ℕ) → listFrom input k (suc m) ≡ listPart input k ++ listFrom input (k + 1) m
   unfolding listFrom listPart numbersFrom flatMap
-  list-next k m = go (listed k) refl ∙ ap (λ (j : ℕ). listPart input k ++ listFrom input j m) (sym (add-one k))
+  list-next k m = go (isChanged input k) refl ∙ ap (λ (j : ℕ). listPart input k ++ listFrom input j m) (sym (add-one k))
     where
-      listed : ℕ → Bool
-      listed j = isListed (reasonAt input j)
-
       told : List ℕ → List ℕ
       told l = flatMap changeBytes (map (changeAt input) l)
 
-      go : (b : Bool) → listed k ≡ b → listFrom input k (suc m) ≡ listPart input k ++ listFrom input (suc k) m
-      go true e = ap told (keep-first listed k (numbersFrom (suc k) m) e) ∙ sym (ap (λ (b : Bool). (if b then changeBytes (changeAt input k) else []) ++ listFrom input (suc k) m) e)
-      go false e = ap told (keep-past listed k (numbersFrom (suc k) m) e) ∙ sym (ap (λ (b : Bool). (if b then changeBytes (changeAt input k) else []) ++ listFrom input (suc k) m) e)
+      go : (b : Bool) → isChanged input k ≡ b → listFrom input k (suc m) ≡ listPart input k ++ listFrom input (suc k) m
+      go true e = ap told (keep-first (isChanged input) k (numbersFrom (suc k) m) e) ∙ sym (ap (λ (b : Bool). (if b then changeBytes (changeAt input k) else []) ++ listFrom input (suc k) m) e)
+      go false e = ap told (keep-past (isChanged input) k (numbersFrom (suc k) m) e) ∙ sym (ap (λ (b : Bool). (if b then changeBytes (changeAt input k) else []) ++ listFrom input (suc k) m) e)
 
   -- all arcs, and none
   table-all : tableFrom 0 (wholeArcs input) ≡ mendedTable input
@@ -166,7 +160,9 @@ module _ (input : List ℕ) where
     pub underway-end : wholeArcs input ≤ k → AllStepped input done table₀ table list₀ list
     underway-end h =
         let none : wholeArcs input - k ≡ 0 = omega arith in
+        let all : k ≡ wholeArcs input = omega (arith, u .within) in
         record {
+          staying-is = u .staying-is ∙ ap (newNumber input) all;
           table-put = all-put (u .table-put) (ap (tableFrom k) none ∙ table-none k);
           list-put = all-put (u .list-put) (ap (listFrom input k) none ∙ list-none k);
           list-short = omega (arith, u .list-short, u .within);

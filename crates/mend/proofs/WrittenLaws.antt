@@ -1,21 +1,18 @@
 -- What is written: the bytes of a change, a record with its spare bytes made zero, a torn end. Assumes nothing.
-use Prim.Native.Nat.{ℕ, _-_, _/_, _%_, _≤_}
-use mathlib.Core.Bool.{Bool, true, false}
+use Prim.Native.Nat.{ℕ, _+_, _*_, _-_, _/_, _%_, _≤_}
 use mathlib.Core.List.{List, [], _∷_, _++_, flatMap, append-nil}
-use mathlib.Core.Path.{_≡_, refl, sym, ap}
+use mathlib.Core.Path.{_≡_, sym, ap, _∙_}
 use native.Mathlib.Omega.{arith}
-use lib.Dec.{eqb}
 use lib.ListN.{length, take, drop}
 use lib.Seq.{take-all}
-use borrow.Author.Tests.{eqb-true, eqb-false, eq-eqb, ne-eqb}
 use Rattle.laws.specs.Choosing.{if_then_else_}
 use Rattle.problem.specs.declared.Reason.{Reason}
 use Rattle.problem.specs.declared.Reason.the-variants.{TornEnd}
 use Rattle.problem.specs.Table.{bytesOf}
-use Rattle.problem.specs.Mending.{wholeArcs, zeroed, reasonNumber, isLost, noNumber, changed, tornEnd, changeBytes}
+use Rattle.problem.specs.Mending.{wholeArcs, zeroed, reasonNumber, isLost, noNumber, changed, changeBytes, roundedUp}
 use Rattle.problem.proofs.MendLaws.{Headed, record-headed}
-use Rattle.problem.proofs.ChangeLaws.{change-length}
-use Rattle.mend.specs.Steps.{tornBytes, tornSize}
+use Rattle.problem.proofs.ChangeLaws.{Ended, ended, whole-end, torn-end, change-length}
+use Rattle.mend.specs.Steps.{tornBytes}
 
 pub change-written : (old number n : ℕ) (r : Reason) (new : ℕ) → number ≡ reasonNumber r → n ≡ (if isLost r then noNumber else new)
     → old % 256 ∷ old / 256 % 256 ∷ number ∷ 0 ∷ n % 256 ∷ n / 256 % 256 ∷ 0 ∷ 0 ∷ 0 ∷ 0 ∷ 0 ∷ 0 ∷ 0 ∷ 0 ∷ 0 ∷ 0 ∷ [] ≡ changeBytes (changed old r new)
@@ -33,19 +30,24 @@ zeroed-written b h = go (record-headed b h)
 
 module _ (input : List ℕ) where
   pub torn-none : length input % 16 ≡ 0 → [] ≡ tornBytes input
-  unfolding tornBytes tornEnd flatMap
-  torn-none e = rw (eq-eqb (length input % 16) 0 e)
+  unfolding tornBytes flatMap
+  torn-none e = rw (whole-end input e)
 
   pub torn-some : (length input % 16 ≡ 0 → ⊥) → changeBytes (changed (wholeArcs input) TornEnd 0) ≡ tornBytes input
-  unfolding tornBytes tornEnd flatMap
-  torn-some e = rw (ne-eqb (length input % 16) 0 e) (sym (append-nil (changeBytes (changed (wholeArcs input) TornEnd 0))))
+  unfolding tornBytes flatMap
+  torn-some e = rw (torn-end input e) (sym (append-nil (changeBytes (changed (wholeArcs input) TornEnd 0))))
 
-  pub torn-room : (length input % 16 ≡ 0 → ⊥) → tornSize input ≡ 16
-  torn-room e = rw (ne-eqb (length input % 16) 0 e)
+  -- the room that it takes
+  whole-room : length input % 16 ≡ 0 → length (tornBytes input) ≡ 0
+  whole-room e = ap length (sym (torn-none e))
 
-  pub torn-short : length (tornBytes input) ≤ 16
-  torn-short = go (eqb (length input % 16) 0) refl
+  pub torn-room : (length input % 16 ≡ 0 → ⊥) → length (tornBytes input) ≡ 16
+  torn-room e = ap length (sym (torn-some e)) ∙ change-length (changed (wholeArcs input) TornEnd 0)
+
+  -- a part of a record takes a whole one's
+  pub torn-short : 16 * wholeArcs input + length (tornBytes input) ≤ roundedUp input
+  torn-short = go (ended input)
     where
-      go : (b : Bool) → eqb (length input % 16) 0 ≡ b → length (tornBytes input) ≤ 16
-      go true e = omega (arith, ap length (torn-none (eqb-true (length input % 16) 0 e)))
-      go false e = omega (arith, ap length (torn-some (eqb-false (length input % 16) 0 e)), change-length (changed (wholeArcs input) TornEnd 0))
+      go : Ended input → 16 * wholeArcs input + length (tornBytes input) ≤ roundedUp input
+      go (Ended.whole e) = omega (arith, whole-room e)
+      go (Ended.torn e) = omega (arith, torn-room e)

@@ -1,12 +1,11 @@
 -- A table mended arc by arc: what each arc adds to the two outputs, what a step does, and all steps together. Assumes nothing.
-use Prim.Native.Nat.{ℕ, _+_, _*_, _%_, _≤_, _<_}
+use Prim.Native.Nat.{ℕ, _+_, _*_, _≤_, _<_}
 use mathlib.Core.List.{List, [], flatMap}
 use mathlib.Core.Path.{_≡_}
-use lib.Dec.{eqb}
 use lib.ListN.{length}
 use Rattle.laws.specs.Choosing.{if_then_else_}
 use Rattle.problem.specs.Table.{recordAt}
-use Rattle.problem.specs.Mending.{mostFieldBytes, wholeArcs, newNumber, zeroed, mendedTable, reasonAt, isListed, isLost, tornEnd, changeAt, changesFrom, changeBytes, roundedUp, Mends}
+use Rattle.problem.specs.Mending.{mostFieldBytes, wholeArcs, newNumber, zeroed, mendedTable, reasonAt, isLost, tornEnd, isChanged, changeAt, changesFrom, changeBytes, roundedUp, Mends}
 use Rattle.octets.specs.Puts.{Puts}
 use Rattle.mend.specs.declared.Done.{Done}
 use Rattle.mend.specs.declared.Mended.{Mended}
@@ -17,18 +16,15 @@ module _ (input : List ℕ) where
   tablePart k = if isLost (reasonAt input k) then [] else zeroed (recordAt input k)
 
   unfoldable pub listPart : ℕ → List ℕ
-  listPart k = if isListed (reasonAt input k) then changeBytes (changeAt input k) else []
+  listPart k = if isChanged input k then changeBytes (changeAt input k) else []
 
   -- what the m arcs from k on add to the list
   unfoldable pub listFrom : ℕ → ℕ → List ℕ
   listFrom k m = flatMap changeBytes (changesFrom input k m)
 
-  -- and what a torn end adds, with the room that it takes
+  -- and what a torn end adds
   unfoldable pub tornBytes : List ℕ
   tornBytes = flatMap changeBytes (tornEnd input)
-
-  abbrev pub tornSize : ℕ
-  tornSize = if eqb (length input % 16) 0 then 0 else 16
 
   -- arc k may be mended: those before it are, and there is room
   pub record Ready (k : ℕ) (done : Done) (tableSize listSize : ℕ) : Type 0 where
@@ -52,6 +48,7 @@ module _ (input : List ℕ) where
 
   -- all whole arcs are mended
   pub record AllStepped (done : Done) (table₀ table list₀ list : List ℕ) : Type 0 where
+    pub staying-is : done .staying ≡ newNumber input (wholeArcs input)
     pub table-put : Puts (mendedTable input) table₀ 0 table (done .table)
     pub list-put : Puts (listFrom 0 (wholeArcs input)) list₀ 0 list (done .list)
     pub list-short : done .list ≤ 16 * wholeArcs input

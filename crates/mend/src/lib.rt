@@ -14,7 +14,7 @@ ghost use Rattle.problem.specs.Table.{mostInTable};
 ghost use Rattle.problem.specs.Reply.{firstNumber};
 ghost use Rattle.problem.specs.Mending.{mostFieldBytes, mayStay, zeroed, reasonFor, isListed, isLost, noNumber, changed, changeBytes, mendChecks};
 ghost use Rattle.octets.specs.Puts.{Puts};
-ghost use Rattle.mend.specs.Steps.{tornBytes, tornSize, Ready, Stepped, Roomy, AllStepped, MendsBy};
+ghost use Rattle.mend.specs.Steps.{tornBytes, Ready, Stepped, Roomy, AllStepped, MendsBy};
 
 // In place of a new number, where there is none.
 const NO_NUMBER: u64 = 65535;
@@ -217,7 +217,7 @@ fn mend_arcs(input: &[u8], table: &mut [u8], list: &mut [u8]) -> Done
 
 // Notes a torn end, where there is one, as the arc that it would have been.
 fn note_torn(input: &[u8], list: &mut [u8], at: usize) -> usize
-    requires { ⌜ at + tornSize (now input) ≤ length (now list) ⌝ }
+    requires { ⌜ at + length (tornBytes (now input)) ≤ length (now list) ⌝ }
     ensures { λ next. ⌜ Puts (tornBytes (now (input .entry))) (now (list .entry)) at (now (list .exit)) next ⌝ }
 {
     if input.len() % ARC_BYTES == 0 {

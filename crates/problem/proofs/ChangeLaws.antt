@@ -9,15 +9,15 @@ use lib.Dec.{eqb, leb, ltb}
 use lib.ListN.{length, getD, length-take}
 use lib.Seq.{getD-take}
 use borrow.Author.Tests.{eqb-true, eqb-false, eq-eqb, ne-eqb, ltb-true, ltb-false, lt-ltb, le-ltb, le-leb, lt-leb}
-use Rattle.laws.specs.Choosing.{numbersFrom, keep, Pairwise}
+use Rattle.laws.specs.Choosing.{if_then_else_, numbersFrom, keep, Pairwise}
 use Rattle.laws.proofs.ListLaws.{getD-mem, keep-in, keep-out, keep-none, keep-first, keep-past, length-keep, pairwise-append, pairwise-keep, pairwise-map}
 use Rattle.laws.proofs.RowLaws.{numbers-in, numbers-out, numbers-rise, map-numbers, flat-length, flat-at}
 use Rattle.problem.specs.declared.Fault.{Fault}
 use Rattle.problem.specs.declared.Fault.the-variants.{Sound, Node, EqualEnds, Length, Spare}
 use Rattle.problem.specs.declared.Reason.{Reason}
-use Rattle.problem.specs.declared.Reason.the-variants.{BadNode, SameEnds, TooLong, SpareUsed, PastLimit}
+use Rattle.problem.specs.declared.Reason.the-variants.{Unchanged, BadNode, SameEnds, TooLong, SpareUsed, PastLimit}
 use Rattle.problem.specs.Table.{mostInTable, numberAt, bytesOf, recordAt, arcsOf, faultNumber, arcNumber}
-use Rattle.problem.specs.Mending.{mostFieldBytes, Clean, wholeArcs, faultAt, mayStay, newNumber, stayingBelow, keptArcs, reasonFor, reasonAt, isListed, isLost, noNumber, Change, changed, tornEnd, changeAt, changesFrom, changes, changeBytes, mendedList, changeIn, changesIn, oldNumber, KeptAs, lost, Listed}
+use Rattle.problem.specs.Mending.{mostFieldBytes, Clean, wholeArcs, faultAt, mayStay, stays, newNumber, stayingBelow, keptArcs, reasonFor, reasonAt, reasonNumber, isListed, isLost, noNumber, Change, changed, tornEnd, isChanged, changeAt, changesFrom, changes, changeBytes, mendedList, changeIn, changesIn, oldNumber, KeptAs, lost, Listed}
 use Rattle.problem.proofs.FaultLaws.{faultless-number}
 use Rattle.problem.proofs.TableLaws.{arcs-length, arcs-at, number-sound}
 use Rattle.problem.proofs.MendLaws.{new-below, new-more, new-same, kept-at, clean-sound}
@@ -94,52 +94,91 @@ past-reason Sound n e h = rw (le-ltb n mostInTable h)
 -- ---- the list of one input
 
 module _ (input : List ℕ) where
-  -- whether arc k has a change, and whether it stays
-  abbrev listed : ℕ → Bool
-  listed k = isListed (reasonAt input k)
-
-  abbrev stays : ℕ → Bool
-  stays k = mayStay (faultAt input k)
-
   -- a change of one of m arcs from k on
   record ChangeOf (k m : ℕ) (c : Change) : Type 0 where
     at : ℕ
     from : k ≤ at
     below : at < k + m
-    has : listed at ≡ true
+    has : isChanged input at ≡ true
     is : changeAt input at ≡ c
 
   change-of : (k m : ℕ) {c : Change} → List·Memᴰ c (changesFrom input k m) → ChangeOf k m c
   change-of k m x =
-      let o = Memᴰ·of-map (changeAt input) (keep listed (numbersFrom k m)) x in
-      let kept = keep-out listed (numbersFrom k m) (o .1) in
+      let o = Memᴰ·of-map (changeAt input) (keep (isChanged input) (numbersFrom k m)) x in
+      let kept = keep-out (isChanged input) (numbersFrom k m) (o .1) in
       let inside = numbers-out k m (kept .0) in
       record { at = o .0; from = inside .0; below = inside .1; has = kept .1; is = o .2 }
 
-  -- those of whole arcs stand in the list as the request says
-  listed-by : (k : ℕ) → k < wholeArcs input → (f : Fault) → faultAt input k ≡ f → isListed (reasonFor f (newNumber input k)) ≡ true
-      → Listed input (changed k (reasonFor f (newNumber input k)) (newNumber input k))
-  listed-by k h Node e l = Listed.bad-node k h e
-  listed-by k h EqualEnds e l = Listed.equal-ends k h e
-  listed-by k h Length e l = Listed.bad-length k h e
-  listed-by k h Spare e l = go (ltb (newNumber input k) mostInTable) refl
+  -- what becomes of a whole arc: it is lost, for a reason that the request gives; or kept, its spare bytes made zero; or kept as it is
+  data Lot (k : ℕ) : Type 0 where
+    goes : (reason : ℕ) → Listed input (lost k reason) → isChanged input k ≡ true → changeAt input k ≡ lost k reason → Lot k
+    zeroed-here : KeptAs input k (newNumber input k) → faultAt input k ≡ Spare → isChanged input k ≡ true → changeAt input k ≡ record { old = k; reason = 4; new = newNumber input k } → Lot k
+    as-it-is : KeptAs input k (newNumber input k) → faultAt input k ≡ Sound → isChanged input k ≡ false → Lot k
+
+  module _ (k : ℕ) (h : k < wholeArcs input) where
+    -- by its first fault and, where it stays, by the limit
+    by-fault : {f : Fault} → faultAt input k ≡ f → reasonAt input k ≡ reasonFor f (newNumber input k)
+    by-fault e = ap (λ (g : Fault). reasonFor g (newNumber input k)) e
+
+    goes-by : (r : Reason) → reasonAt input k ≡ r → isListed r ≡ true → isLost r ≡ true → Listed input (lost k (reasonNumber r)) → Lot k
+    goes-by r e listed lost-then l =
+        Lot.goes (reasonNumber r) l (ap isListed e ∙ listed)
+        (ap (λ (s : Reason). changed k s (newNumber input k)) e ∙ ap (λ (b : Bool). record { old = k; reason = reasonNumber r; new = if b then noNumber else newNumber input k }) lost-then)
+
+    kept-here : {f : Fault} → faultAt input k ≡ f → mayStay f ≡ true → newNumber input k < mostInTable → KeptAs input k (newNumber input k)
+    kept-here e s room = record { is-whole = h; may-stay = ap mayStay e ∙ s; in-turn = refl; has-room = room }
+
+    past-here : {f : Fault} → faultAt input k ≡ f → mayStay f ≡ true → mostInTable ≤ newNumber input k → Lot k
+    past-here {f} e s past = goes-by PastLimit (by-fault e ∙ past-reason f (newNumber input k) s past) refl refl (Listed.past-limit k h (ap mayStay e ∙ s) past)
+
+    lot : Lot k
+    lot = go (faultAt input k) refl (ltb (newNumber input k) mostInTable) refl
+      where
+        go : (f : Fault) → faultAt input k ≡ f → (b : Bool) → ltb (newNumber input k) mostInTable ≡ b → Lot k
+        go Node e b t = goes-by BadNode (by-fault e) refl refl (Listed.bad-node k h e)
+        go EqualEnds e b t = goes-by SameEnds (by-fault e) refl refl (Listed.equal-ends k h e)
+        go Length e b t = goes-by TooLong (by-fault e) refl refl (Listed.bad-length k h e)
+        go Spare e true t =
+            let is : reasonAt input k ≡ SpareUsed = by-fault e ∙ rw t in
+            Lot.zeroed-here (kept-here e refl (ltb-true _ _ t)) e (ap isListed is) (ap (λ (r : Reason). changed k r (newNumber input k)) is)
+        go Sound e true t =
+            let is : reasonAt input k ≡ Unchanged = by-fault e ∙ rw t in
+            Lot.as-it-is (kept-here e refl (ltb-true _ _ t)) e (ap isListed is)
+        go Spare e false t = past-here e refl (ltb-false _ _ t)
+        go Sound e false t = past-here e refl (ltb-false _ _ t)
+
+  -- what becomes of the input's end: it is whole, or torn
+  pub whole-end : length input % 16 ≡ 0 → tornEnd input ≡ []
+  unfolding tornEnd
+  whole-end e = rw (eq-eqb (length input % 16) 0 e)
+
+  pub torn-end : (length input % 16 ≡ 0 → ⊥) → tornEnd input ≡ lost (wholeArcs input) 6 ∷ []
+  unfolding tornEnd
+  torn-end e = rw (ne-eqb (length input % 16) 0 e)
+
+  pub data Ended : Type 0 where
+    whole : length input % 16 ≡ 0 → Ended
+    torn : (length input % 16 ≡ 0 → ⊥) → Ended
+
+  pub ended : Ended
+  ended = go (eqb (length input % 16) 0) refl
     where
-      go : (b : Bool) → ltb (newNumber input k) mostInTable ≡ b → Listed input (changed k (reasonFor Spare (newNumber input k)) (newNumber input k))
-      go true t = rw t (Listed.spare-zeroed k (newNumber input k) (record { is-whole = h; may-stay = ap mayStay e; in-turn = refl; has-room = ltb-true _ _ t }) e)
-      go false t = rw t (Listed.past-limit k h (ap mayStay e) (ltb-false _ _ t))
-  listed-by k h Sound e l = go (ltb (newNumber input k) mostInTable) refl l
-    where
-      go : (b : Bool) → ltb (newNumber input k) mostInTable ≡ b → isListed (reasonFor Sound (newNumber input k)) ≡ true → Listed input (changed k (reasonFor Sound (newNumber input k)) (newNumber input k))
-      go true t l = absurd (false≢true (rw t at l))
-      go false t l = rw t (Listed.past-limit k h (ap mayStay e) (ltb-false _ _ t))
+      go : (b : Bool) → eqb (length input % 16) 0 ≡ b → Ended
+      go true e = Ended.whole (eqb-true _ _ e)
+      go false e = Ended.torn (eqb-false _ _ e)
 
   torn-out : {c : Change} → List·Memᴰ c (tornEnd input) → (c ≡ lost (wholeArcs input) 6) × (length input % 16 ≡ 0 → ⊥)
-  unfolding tornEnd
-  torn-out {c} m = go (eqb (length input % 16) 0) refl m
+  torn-out {c} m = go ended
     where
-      go : (b : Bool) → eqb (length input % 16) 0 ≡ b → List·Memᴰ c (tornEnd input) → (c ≡ lost (wholeArcs input) 6) × (length input % 16 ≡ 0 → ⊥)
-      go true e m = absurd (List·Memᴰ·not-nil (rw e at m))
-      go false e m = (List·Memᴰ·eq-of-singleton (rw e at m), eqb-false _ _ e)
+      go : Ended → (c ≡ lost (wholeArcs input) 6) × (length input % 16 ≡ 0 → ⊥)
+      go (Ended.whole e) = absurd (List·Memᴰ·not-nil (subst (List·Memᴰ c) (whole-end e) m))
+      go (Ended.torn e) = (List·Memᴰ·eq-of-singleton (subst (List·Memᴰ c) (torn-end e) m), e)
+
+  -- what stands in the list is what the request says
+  whole-listed : {k : ℕ} → Lot k → isChanged input k ≡ true → Listed input (changeAt input k)
+  whole-listed (Lot.goes reason l c is) e = subst (Listed input) (sym is) l
+  whole-listed (Lot.zeroed-here kept f c is) e = subst (Listed input) (sym is) (Listed.spare-zeroed _ _ kept f)
+  whole-listed (Lot.as-it-is kept f c) e = absurd (true≢false (sym e ∙ c))
 
   pub listed-out : {c : Change} → List·Memᴰ c (changes input) → Listed input c
   unfolding changes
@@ -148,7 +187,7 @@ module _ (input : List ℕ) where
       go : List·Memᴰ c (changesFrom input 0 (wholeArcs input)) ⊎ List·Memᴰ c (tornEnd input) → Listed input c
       go (inl q) =
           let o = change-of 0 (wholeArcs input) q in
-          subst (Listed input) (o .is) (listed-by (o .at) (omega (arith, o .below)) (faultAt input (o .at)) refl (o .has))
+          subst (Listed input) (o .is) (whole-listed (lot (o .at) (omega (arith, o .below))) (o .has))
       go (inr q) = let t = torn-out q in subst (Listed input) (sym (t .0)) (Listed.torn-end (t .1))
 
   -- and what the request says stands in the list
@@ -157,22 +196,19 @@ module _ (input : List ℕ) where
   listed-whole k h {r} e l =
       Memᴰ·append-left (tornEnd input)
       (Memᴰ·cast (ap (λ (s : Reason). changed k s (newNumber input k)) (sym e))
-      (Memᴰ·map (changeAt input) (keep-in listed (numbersFrom 0 (wholeArcs input)) (numbers-in 0 (wholeArcs input) (omega arith) (omega arith)) (ap isListed e ∙ l))))
-
-  by-fault : (k : ℕ) {f : Fault} → faultAt input k ≡ f → reasonAt input k ≡ reasonFor f (newNumber input k)
-  by-fault k e = ap (λ (g : Fault). reasonFor g (newNumber input k)) e
+      (Memᴰ·map (changeAt input) (keep-in (isChanged input) (numbersFrom 0 (wholeArcs input)) (numbers-in 0 (wholeArcs input) (omega arith) (omega arith)) (ap isListed e ∙ l))))
 
   pub listed-in : {c : Change} → Listed input c → List·Memᴰ c (changes input)
-  unfolding tornEnd changes
-  listed-in (Listed.bad-node k h e) = listed-whole k h {r = BadNode} (by-fault k e) refl
-  listed-in (Listed.equal-ends k h e) = listed-whole k h {r = SameEnds} (by-fault k e) refl
-  listed-in (Listed.bad-length k h e) = listed-whole k h {r = TooLong} (by-fault k e) refl
+  unfolding changes
+  listed-in (Listed.bad-node k h e) = listed-whole k h {r = BadNode} (by-fault k h e) refl
+  listed-in (Listed.equal-ends k h e) = listed-whole k h {r = SameEnds} (by-fault k h e) refl
+  listed-in (Listed.bad-length k h e) = listed-whole k h {r = TooLong} (by-fault k h e) refl
   listed-in (Listed.spare-zeroed k new a e) =
       let room : newNumber input k < mostInTable = omega (arith, a .in-turn, a .has-room) in
       Memᴰ·cast (ap (λ (n : ℕ). record { old = k; reason = 4; new = n }) (sym (a .in-turn)))
-      (listed-whole k (a .is-whole) {r = SpareUsed} (by-fault k e ∙ rw (lt-ltb (newNumber input k) mostInTable room)) refl)
+      (listed-whole k (a .is-whole) {r = SpareUsed} (by-fault k (a .is-whole) e ∙ rw (lt-ltb (newNumber input k) mostInTable room)) refl)
   listed-in (Listed.past-limit k h s p) = listed-whole k h {r = PastLimit} (past-reason (faultAt input k) (newNumber input k) s p) refl
-  listed-in (Listed.torn-end t) = Memᴰ·append-right (changesFrom input 0 (wholeArcs input)) (rw (ne-eqb (length input % 16) 0 t) (List·Memᴰ·head refl))
+  listed-in (Listed.torn-end t) = Memᴰ·append-right (changesFrom input 0 (wholeArcs input)) (rw (torn-end t) (List·Memᴰ·head refl))
 
   -- no old number is past that of a torn end
   listed-below : {c : Change} → List·Memᴰ c (changesFrom input 0 (wholeArcs input)) → c .old < wholeArcs input
@@ -182,16 +218,16 @@ module _ (input : List ℕ) where
 
   -- the list rises by old number
   pub changes-rise : Pairwise (λ (a b : Change). a .old < b .old) (changes input)
-  unfolding changes tornEnd
+  unfolding changes
   changes-rise =
       pairwise-append (tornEnd input)
-      (pairwise-map (changeAt input) (λ a b l c e. omega (arith, l, ap (λ (x : Change). x .old) e)) (pairwise-keep listed (numbers-rise 0 (wholeArcs input))))
-      (one (eqb (length input % 16) 0) refl)
+      (pairwise-map (changeAt input) (λ a b l c e. omega (arith, l, ap (λ (x : Change). x .old) e)) (pairwise-keep (isChanged input) (numbers-rise 0 (wholeArcs input))))
+      (one ended)
       (λ a b p q. omega (arith, listed-below p, ap (λ (c : Change). c .old) (torn-out q .0)))
     where
-      one : (t : Bool) → eqb (length input % 16) 0 ≡ t → Pairwise (λ (a b : Change). a .old < b .old) (tornEnd input)
-      one true e = rw e Pairwise.none
-      one false e = rw e (Pairwise.one (λ b m. absurd (List·Memᴰ·not-nil m)) Pairwise.none)
+      one : Ended → Pairwise (λ (a b : Change). a .old < b .old) (tornEnd input)
+      one (Ended.whole e) = rw (whole-end e) Pairwise.none
+      one (Ended.torn e) = rw (torn-end e) (Pairwise.one (λ b m. absurd (List·Memᴰ·not-nil m)) Pairwise.none)
 
   -- every change fits its record
   listed-fits : length input ≤ mostFieldBytes → {c : Change} → Listed input c → Fits c
@@ -223,22 +259,22 @@ module _ (input : List ℕ) where
       go (inr q) = omega (arith, after c q)
 
   -- an arc that is removed puts what is at it or behind it one further on
-  past-removed : (m k x : ℕ) (behind : List Change) → stays k ≡ false → k ≤ x → oldNumber (onFrom k (suc m) behind) x ≡ oldNumber (onFrom (suc k) m behind) (suc x)
+  past-removed : (m k x : ℕ) (behind : List Change) → stays input k ≡ false → k ≤ x → oldNumber (onFrom k (suc m) behind) x ≡ oldNumber (onFrom (suc k) m behind) (suc x)
   unfolding numbersFrom
   past-removed m k x behind e h =
       let r = removed-lost (faultAt input k) (newNumber input k) e in
-      ap (λ (l : List ℕ). oldNumber (map (changeAt input) l ++ behind) x) (keep-first listed k (numbersFrom (suc k) m) (r .1))
+      ap (λ (l : List ℕ). oldNumber (map (changeAt input) l ++ behind) x) (keep-first (isChanged input) k (numbersFrom (suc k) m) (r .1))
       ∙ old-lost (changeAt input k) (onFrom (suc k) m behind) x (rw (r .0)) h
 
   -- one that is kept leaves it where it is
-  past-kept : (m k x : ℕ) (behind : List Change) → stays k ≡ true → newNumber input k < mostInTable → oldNumber (onFrom k (suc m) behind) x ≡ oldNumber (onFrom (suc k) m behind) x
+  past-kept : (m k x : ℕ) (behind : List Change) → stays input k ≡ true → newNumber input k < mostInTable → oldNumber (onFrom k (suc m) behind) x ≡ oldNumber (onFrom (suc k) m behind) x
   unfolding numbersFrom keep
-  past-kept m k x behind e room = go (listed k) refl
+  past-kept m k x behind e room = go (isChanged input k) refl
     where
       new : changeAt input k .new ≡ newNumber input k
       new = rw (kept-reason (faultAt input k) (newNumber input k) e room)
 
-      go : (b : Bool) → listed k ≡ b → oldNumber (onFrom k (suc m) behind) x ≡ oldNumber (onFrom (suc k) m behind) x
+      go : (b : Bool) → isChanged input k ≡ b → oldNumber (onFrom k (suc m) behind) x ≡ oldNumber (onFrom (suc k) m behind) x
       go true l = rw (l, keep) (old-kept (changeAt input k) (onFrom (suc k) m behind) x (λ z. omega (arith, new)))
       go false l = rw (l, keep)
 
@@ -248,22 +284,22 @@ module _ (input : List ℕ) where
 
   -- of those that stay among m arcs from k on, each is
   abbrev Found : List Change → (k m : ℕ) → Type 0
-  Found behind k m = (d : ℕ) → FoundAmong (keep stays (numbersFrom k m)) behind k m d
+  Found behind k m = (d : ℕ) → FoundAmong (keep (stays input) (numbersFrom k m)) behind k m d
 
   found-on : (behind : List Change) (m k : ℕ) → ((c : Change) → List·Memᴰ c behind → k + m ≤ c .old) → Found behind k m
   unfolding numbersFrom
-  found-on behind zero k after = λ d h room. absurd (omega (arith, h, length-keep stays []))
-  found-on behind (suc m) k after = go (stays k) refl (found-on behind m (suc k) (λ c x. omega (arith, after c x)))
+  found-on behind zero k after = λ d h room. absurd (omega (arith, h, length-keep (stays input) []))
+  found-on behind (suc m) k after = go (stays input k) refl (found-on behind m (suc k) (λ c x. omega (arith, after c x)))
     where
       rest : List ℕ
-      rest = keep stays (numbersFrom (suc k) m)
+      rest = keep (stays input) (numbersFrom (suc k) m)
 
-      removed : stays k ≡ false → Found behind (suc k) m → (d : ℕ) → FoundAmong rest behind k (suc m) d
+      removed : stays input k ≡ false → Found behind (suc k) m → (d : ℕ) → FoundAmong rest behind k (suc m) d
       removed e ih d h room =
           let next : suc (k + d) ≡ suc k + d = omega arith in
           past-removed m k (k + d) behind e (omega arith) ∙ ap (oldNumber (onFrom (suc k) m behind)) next ∙ ih d h room
 
-      kept : stays k ≡ true → Found behind (suc k) m → (d : ℕ) → FoundAmong (k ∷ rest) behind k (suc m) d
+      kept : stays input k ≡ true → Found behind (suc k) m → (d : ℕ) → FoundAmong (k ∷ rest) behind k (suc m) d
       kept e ih zero h room =
           let here : k + 0 ≡ k = omega arith in
           past-kept m k (k + 0) behind e room
@@ -272,22 +308,22 @@ module _ (input : List ℕ) where
       kept e ih (suc d) h room =
           let next : k + suc d ≡ suc k + d = omega arith in
           let inside : d < length rest = omega arith in
-          let later = numbers-out (suc k) m (keep-out stays (numbersFrom (suc k) m) (getD-mem 0 rest d inside) .0) .0 in
+          let later = numbers-out (suc k) m (keep-out (stays input) (numbersFrom (suc k) m) (getD-mem 0 rest d inside) .0) .0 in
           past-kept m k (k + suc d) behind e (omega (arith, new-more input {j = k} {k = getD rest d 0} (omega (arith, later))))
           ∙ ap (oldNumber (onFrom (suc k) m behind)) next
           ∙ ih d inside room
 
-      go : (b : Bool) → stays k ≡ b → Found behind (suc k) m → (d : ℕ) → FoundAmong (keep stays (k ∷ numbersFrom (suc k) m)) behind k (suc m) d
-      go true e ih d = subst (λ (l : List ℕ). FoundAmong l behind k (suc m) d) (sym (keep-first stays k (numbersFrom (suc k) m) e)) (kept e ih d)
-      go false e ih d = subst (λ (l : List ℕ). FoundAmong l behind k (suc m) d) (sym (keep-past stays k (numbersFrom (suc k) m) e)) (removed e ih d)
+      go : (b : Bool) → stays input k ≡ b → Found behind (suc k) m → (d : ℕ) → FoundAmong (keep (stays input) (k ∷ numbersFrom (suc k) m)) behind k (suc m) d
+      go true e ih d = subst (λ (l : List ℕ). FoundAmong l behind k (suc m) d) (sym (keep-first (stays input) k (numbersFrom (suc k) m) e)) (kept e ih d)
+      go false e ih d = subst (λ (l : List ℕ). FoundAmong l behind k (suc m) d) (sym (keep-past (stays input) k (numbersFrom (suc k) m) e)) (removed e ih d)
 
   -- each arc of the table is found where it stood
   old-is : (i : ℕ) → i < length (keptArcs input) → oldNumber (changes input) i ≡ getD (keptArcs input) i 0
   unfolding keptArcs stayingBelow changes
   old-is i h =
       let all = numbersFrom 0 (wholeArcs input) in
-      let few = length-take mostInTable (keep stays all) in
-      let same = getD-take mostInTable (keep stays all) i 0 (omega (arith, few)) in
+      let few = length-take mostInTable (keep (stays input) all) in
+      let same = getD-take mostInTable (keep (stays input) all) i 0 (omega (arith, few)) in
       let k = kept-at input i h in
       let here : i ≡ 0 + i = omega arith in
       ap (oldNumber (changes input)) here
@@ -300,55 +336,40 @@ module _ (input : List ℕ) where
 
   -- an arc is kept, or it is lost and stands in the list
   pub kept-or-lost : (k : ℕ) → k < wholeArcs input → KeptAs input k (newNumber input k) ⊎ ((reason : ℕ) × Listed input (lost k reason))
-  kept-or-lost k h = go (faultAt input k) refl
+  kept-or-lost k h = go (lot k h)
     where
-      staying : stays k ≡ true → (b : Bool) → ltb (newNumber input k) mostInTable ≡ b → KeptAs input k (newNumber input k) ⊎ ((reason : ℕ) × Listed input (lost k reason))
-      staying e true t = inl (record { is-whole = h; may-stay = e; in-turn = refl; has-room = ltb-true _ _ t })
-      staying e false t = inr (5, Listed.past-limit k h e (ltb-false _ _ t))
-
-      go : (f : Fault) → faultAt input k ≡ f → KeptAs input k (newNumber input k) ⊎ ((reason : ℕ) × Listed input (lost k reason))
-      go Node e = inr (1, Listed.bad-node k h e)
-      go EqualEnds e = inr (2, Listed.equal-ends k h e)
-      go Length e = inr (3, Listed.bad-length k h e)
-      go Spare e = staying (ap mayStay e) (ltb (newNumber input k) mostInTable) refl
-      go Sound e = staying (ap mayStay e) (ltb (newNumber input k) mostInTable) refl
+      go : Lot k → KeptAs input k (newNumber input k) ⊎ ((reason : ℕ) × Listed input (lost k reason))
+      go (Lot.goes reason l c is) = inr (reason, l)
+      go (Lot.zeroed-here kept f c is) = inl kept
+      go (Lot.as-it-is kept f c) = inl kept
 
   -- ---- an empty list
 
   clean-unlisted : Clean input → changes input ≡ []
-  unfolding changes tornEnd
+  unfolding changes
   clean-unlisted clean =
       rw (
-        eq-eqb (length input % 16) 0 (clean .whole-arcs),
-        keep-none listed (numbersFrom 0 (wholeArcs input)) (λ k m.
+        whole-end (clean .whole-arcs),
+        keep-none (isChanged input) (numbersFrom 0 (wholeArcs input)) (λ k m.
             let h : k < wholeArcs input = omega (arith, numbers-out 0 (wholeArcs input) m .1) in
             rw (clean-sound input clean k h, lt-ltb (newNumber input k) mostInTable (omega (arith, clean .few-bytes, new-below input k)))),
       )
 
   module _ (none : (c : Change) → Listed input c → ⊥) where
     unlisted-whole : length input % 16 ≡ 0
-    unlisted-whole = go (eqb (length input % 16) 0) refl
+    unlisted-whole = go ended
       where
-        go : (b : Bool) → eqb (length input % 16) 0 ≡ b → length input % 16 ≡ 0
-        go true e = eqb-true _ _ e
-        go false e = absurd (none _ (Listed.torn-end (eqb-false _ _ e)))
+        go : Ended → length input % 16 ≡ 0
+        go (Ended.whole e) = e
+        go (Ended.torn e) = absurd (none _ (Listed.torn-end e))
 
-    unlisted-kept : (k : ℕ) → k < wholeArcs input → KeptAs input k (newNumber input k)
-    unlisted-kept k h = go (kept-or-lost k h)
+    unlisted-same : (k : ℕ) → k < wholeArcs input → KeptAs input k (newNumber input k) × (faultAt input k ≡ Sound)
+    unlisted-same k h = go (lot k h)
       where
-        go : KeptAs input k (newNumber input k) ⊎ ((reason : ℕ) × Listed input (lost k reason)) → KeptAs input k (newNumber input k)
-        go (inl a) = a
-        go (inr l) = absurd (none _ (l .1))
-
-    unlisted-sound : (k : ℕ) → k < wholeArcs input → faultAt input k ≡ Sound
-    unlisted-sound k h = go (faultAt input k) refl
-      where
-        go : (f : Fault) → faultAt input k ≡ f → f ≡ Sound
-        go Node e = absurd (none _ (Listed.bad-node k h e))
-        go EqualEnds e = absurd (none _ (Listed.equal-ends k h e))
-        go Length e = absurd (none _ (Listed.bad-length k h e))
-        go Spare e = absurd (none _ (Listed.spare-zeroed k _ (unlisted-kept k h) e))
-        go Sound e = refl
+        go : Lot k → KeptAs input k (newNumber input k) × (faultAt input k ≡ Sound)
+        go (Lot.goes reason l c is) = absurd (none _ l)
+        go (Lot.zeroed-here kept f c is) = absurd (none _ (Listed.spare-zeroed k _ kept f))
+        go (Lot.as-it-is kept f c) = (kept, f)
 
     unlisted-few : wholeArcs input ≤ mostInTable
     unlisted-few = go (ltb mostInTable (wholeArcs input)) refl
@@ -357,7 +378,7 @@ module _ (input : List ℕ) where
         go false e = ltb-false _ _ e
         go true e =
             let over = ltb-true mostInTable (wholeArcs input) e in
-            omega (arith, unlisted-kept mostInTable over .has-room, new-same input mostInTable (λ j l. unlisted-kept j (omega arith) .may-stay))
+            omega (arith, unlisted-same mostInTable over .0 .has-room, new-same input mostInTable (λ j l. unlisted-same j (omega arith) .0 .may-stay))
 
     unlisted-clean : Clean input
     unlisted-clean = record {
@@ -365,7 +386,7 @@ module _ (input : List ℕ) where
       whole-arcs = unlisted-whole;
       sound = number-sound (arcsOf input) (faultless-number (arcsOf input) (λ j b.
           let h : j < wholeArcs input = omega (arith, arcs-length input) in
-          ap arcNumber (arcs-at input j (omega arith)) ∙ ap faultNumber (unlisted-sound j h)));
+          ap arcNumber (arcs-at input j (omega arith)) ∙ ap faultNumber (unlisted-same j h .1)));
     }
 
   -- the list is empty exactly where there is no change

@@ -1,7 +1,7 @@
 -- Mending, the table: what is kept and where it stands, that it is clean, and that a clean table stays as it is. Assumes nothing.
-use mathlib.Core.Path.{_≡_, refl, sym, ap, ap₂, _∙_}
+use mathlib.Core.Path.{_≡_, refl, sym, ap, ap₂, _∙_, subst}
 use mathlib.Core.Logic.{_⊎_, inl, inr}
-use mathlib.Core.Bool.{Bool, true, false, false≢true}
+use mathlib.Core.Bool.{true, false, false≢true}
 use mathlib.Core.List.{List, [], _∷_, _++_, List·Memᴰ}
 use Prim.Native.Nat.{ℕ, zero, suc, _+_, _*_, _/_, _≤_, _<_}
 use native.Mathlib.Numerals.{add-one}
@@ -17,7 +17,7 @@ use Rattle.problem.specs.declared.Fault.{Fault}
 use Rattle.problem.specs.declared.Fault.the-variants.{Sound, Node, EqualEnds, Length, Spare}
 use Rattle.problem.specs.Table.{mostInTable, recordAt, arcOf, arcsOf, SoundArc, HasFault, faultOf, faultNumber, arcNumber, numberAt}
 use Rattle.problem.specs.Routes.{arcAt}
-use Rattle.problem.specs.Mending.{Clean, wholeArcs, faultAt, mayStay, stayingBelow, newNumber, keptArcs, zeroed, mendedTable, KeptAs}
+use Rattle.problem.specs.Mending.{Clean, wholeArcs, faultAt, mayStay, stays, stayingBelow, newNumber, keptArcs, zeroed, mendedTable, KeptAs}
 use Rattle.problem.proofs.FaultLaws.{fault-first, none-sound, arc-sound, faultless-number, fault-sound}
 use Rattle.problem.proofs.TableLaws.{arcs-length, arcs-at, number-sound, sound-at}
 
@@ -108,16 +108,12 @@ module _ (input : List ℕ) where
   pub whole-record : {k : ℕ} → k < wholeArcs input → length (recordAt input k) ≡ 16
   whole-record {k} h = length-take-le 16 (drop (16 * k) input) (rw length-drop (omega arith))
 
-  -- the test of what stays
-  abbrev stays : ℕ → Bool
-  stays k = mayStay (faultAt input k)
-
   -- ---- what is kept
 
-  kept-out : {k : ℕ} → List·Memᴰ k (keptArcs input) → (k < wholeArcs input) × (stays k ≡ true)
+  kept-out : {k : ℕ} → List·Memᴰ k (keptArcs input) → (k < wholeArcs input) × (stays input k ≡ true)
   unfolding keptArcs stayingBelow
   kept-out m =
-      let out = keep-out stays (numbersFrom 0 (wholeArcs input)) (take-mem 0 mostInTable m) in
+      let out = keep-out (stays input) (numbersFrom 0 (wholeArcs input)) (take-mem 0 mostInTable m) in
       (omega (arith, numbers-out 0 (wholeArcs input) (out .0) .1), out .1)
 
   kept-few : length (keptArcs input) ≤ mostInTable
@@ -127,52 +123,52 @@ module _ (input : List ℕ) where
   -- no arc gets a higher number
   pub new-below : (k : ℕ) → newNumber input k ≤ k
   unfolding stayingBelow
-  new-below k = omega (arith, length-keep stays (numbersFrom 0 k), numbers-length 0 k)
+  new-below k = omega (arith, length-keep (stays input) (numbersFrom 0 k), numbers-length 0 k)
 
   -- the next arc's number
-  pub new-stays : (k : ℕ) → stays k ≡ true → newNumber input (k + 1) ≡ newNumber input k + 1
+  pub new-stays : (k : ℕ) → stays input k ≡ true → newNumber input (k + 1) ≡ newNumber input k + 1
   unfolding stayingBelow
-  new-stays k e = rw (add-one k, add-one (newNumber input k)) (passing-next stays k e)
+  new-stays k e = rw (add-one k, add-one (newNumber input k)) (passing-next (stays input) k e)
 
-  pub new-removed : (k : ℕ) → stays k ≡ false → newNumber input (k + 1) ≡ newNumber input k
+  pub new-removed : (k : ℕ) → stays input k ≡ false → newNumber input (k + 1) ≡ newNumber input k
   unfolding stayingBelow
-  new-removed k e = rw add-one (passing-same stays k e)
+  new-removed k e = rw add-one (passing-same (stays input) k e)
 
   pub new-more : {j k : ℕ} → j ≤ k → newNumber input j ≤ newNumber input k
   unfolding stayingBelow
-  new-more h = passing-more stays h
+  new-more h = passing-more (stays input) h
 
   -- where none below it is removed, an arc keeps its number
-  pub new-same : (k : ℕ) → ((j : ℕ) → j < k → stays j ≡ true) → newNumber input k ≡ k
+  pub new-same : (k : ℕ) → ((j : ℕ) → j < k → stays input j ≡ true) → newNumber input k ≡ k
   unfolding stayingBelow
-  new-same k all = ap length (keep-all stays (numbersFrom 0 k) (λ j m. all j (omega (arith, numbers-out 0 k m .1)))) ∙ numbers-length 0 k
+  new-same k all = ap length (keep-all (stays input) (numbersFrom 0 k) (λ j m. all j (omega (arith, numbers-out 0 k m .1)))) ∙ numbers-length 0 k
 
   -- what stands at each place
   pub kept-at : (i : ℕ) → i < length (keptArcs input) → KeptAs input (getD (keptArcs input) i 0) i
   unfolding keptArcs stayingBelow
   kept-at i h =
-      let few = length-take mostInTable (keep stays (numbersFrom 0 (wholeArcs input))) in
-      rw (getD-take mostInTable (keep stays (numbersFrom 0 (wholeArcs input))) i 0 (omega (arith, few))) (made (passing-at stays (wholeArcs input) i (omega (arith, few))) (omega (arith, few)))
+      let few = length-take mostInTable (keep (stays input) (numbersFrom 0 (wholeArcs input))) in
+      rw (getD-take mostInTable (keep (stays input) (numbersFrom 0 (wholeArcs input))) i 0 (omega (arith, few))) (made (passing-at (stays input) (wholeArcs input) i (omega (arith, few))) (omega (arith, few)))
     where
-      made : {old : ℕ} → PassingAt stays (wholeArcs input) i old → i < mostInTable → KeptAs input old i
+      made : {old : ℕ} → PassingAt (stays input) (wholeArcs input) i old → i < mostInTable → KeptAs input old i
       made p room = record { is-whole = p .below; may-stay = p .passes; in-turn = p .place; has-room = room }
 
   -- and where each stands
   kept-place : {old new : ℕ} → KeptAs input old new → (new < length (keptArcs input)) × (getD (keptArcs input) new 0 ≡ old)
   unfolding keptArcs stayingBelow
   kept-place {old} {new} k =
-      let few = length-take mostInTable (keep stays (numbersFrom 0 (wholeArcs input))) in
-      let inside = passing-below stays (k .is-whole) (k .may-stay) in (
+      let few = length-take mostInTable (keep (stays input) (numbersFrom 0 (wholeArcs input))) in
+      let inside = passing-below (stays input) (k .is-whole) (k .may-stay) in (
         omega (arith, few, inside, k .in-turn, k .has-room),
-        getD-take mostInTable (keep stays (numbersFrom 0 (wholeArcs input))) new 0 (k .has-room)
-            ∙ ap (λ (i : ℕ). getD (keep stays (numbersFrom 0 (wholeArcs input))) i 0) (sym (k .in-turn))
-            ∙ passing-place stays (k .is-whole) (k .may-stay),
+        getD-take mostInTable (keep (stays input) (numbersFrom 0 (wholeArcs input))) new 0 (k .has-room)
+            ∙ ap (λ (i : ℕ). getD (keep (stays input) (numbersFrom 0 (wholeArcs input))) i 0) (sym (k .in-turn))
+            ∙ passing-place (stays input) (k .is-whole) (k .may-stay),
       )
 
   -- kept arcs keep their order
   pub kept-rise : {j k m n : ℕ} → KeptAs input j m → KeptAs input k n → j < k → m < n
   unfolding stayingBelow
-  kept-rise a b h = omega (arith, passing-below stays h (a .may-stay), a .in-turn, b .in-turn)
+  kept-rise a b h = omega (arith, passing-below (stays input) h (a .may-stay), a .in-turn, b .in-turn)
 
   -- ---- the table
 
@@ -213,12 +209,13 @@ module _ (input : List ℕ) where
   -- ---- a clean table
 
   module _ (clean : Clean input) where
-    pub clean-sound : (k : ℕ) → k < wholeArcs input → faultAt input k ≡ Sound
-    clean-sound k h =
-        ap faultOf (sym (arcs-at input k (omega arith)))
-        ∙ fault-sound _ (arc-sound _ (sound-at (arcsOf input) (clean .sound) k (omega (arith, arcs-length input))))
+    clean-arc : (k : ℕ) → k < wholeArcs input → SoundArc (arcOf (recordAt input k))
+    clean-arc k h = subst SoundArc (arcs-at input k (omega arith)) (sound-at (arcsOf input) (clean .sound) k (omega (arith, arcs-length input)))
 
-    clean-stays : (k : ℕ) → k < wholeArcs input → stays k ≡ true
+    pub clean-sound : (k : ℕ) → k < wholeArcs input → faultAt input k ≡ Sound
+    clean-sound k h = fault-sound _ (arc-sound _ (clean-arc k h))
+
+    clean-stays : (k : ℕ) → k < wholeArcs input → stays input k ≡ true
     clean-stays k h = rw (clean-sound k h)
 
     clean-new : (k : ℕ) → k ≤ wholeArcs input → newNumber input k ≡ k
@@ -236,9 +233,4 @@ module _ (input : List ℕ) where
     pub clean-same : mendedTable input ≡ input
     clean-same =
         records-same (wholeArcs input) (mendedTable input) input (omega (arith, table-length, clean-count)) (omega (arith, clean .whole-arcs))
-        (λ k h. kept-record (clean-kept h) .1 ∙ zeroed-same (recordAt input k) (whole-record h) (no-spare k h))
-      where
-        no-spare : (k : ℕ) → k < wholeArcs input → arcOf (recordAt input k) .spare ≡ 0
-        no-spare k h =
-            ap (λ (a : Arc). a .spare) (sym (arcs-at input k (omega arith)))
-            ∙ sound-at (arcsOf input) (clean .sound) k (omega (arith, arcs-length input)) .spare-zero
+        (λ k h. kept-record (clean-kept h) .1 ∙ zeroed-same (recordAt input k) (whole-record h) (clean-arc k h .spare-zero))

@@ -41,9 +41,13 @@ mayStay Length = false
 mayStay Spare = true
 mayStay Sound = true
 
--- of the arcs below k, those that are not removed
+-- whether arc k stays, if there is room for it
+abbrev pub stays : List ℕ → ℕ → Bool
+stays input k = mayStay (faultAt input k)
+
+-- of the arcs below k, those that stay
 unfoldable pub stayingBelow : List ℕ → ℕ → List ℕ
-stayingBelow input k = keep (λ j. mayStay (faultAt input j)) (numbersFrom 0 k)
+stayingBelow input k = keep (stays input) (numbersFrom 0 k)
 
 -- the number of arc k afterwards, where it is kept: as many as stay before it
 abbrev pub newNumber : List ℕ → ℕ → ℕ
@@ -121,12 +125,15 @@ changed old reason new = record { old = old; reason = reasonNumber reason; new =
 unfoldable pub tornEnd : List ℕ → List Change
 tornEnd input = if eqb (length input % 16) 0 then [] else changed (wholeArcs input) TornEnd noNumber ∷ []
 
--- the change of arc k, where there is one; and those of m arcs from k on
+-- whether arc k has a change, and which; the changes of m arcs from k on
+abbrev pub isChanged : List ℕ → ℕ → Bool
+isChanged input k = isListed (reasonAt input k)
+
 abbrev pub changeAt : List ℕ → ℕ → Change
 changeAt input k = changed k (reasonAt input k) (newNumber input k)
 
 abbrev pub changesFrom : List ℕ → ℕ → ℕ → List Change
-changesFrom input k m = map (changeAt input) (keep (λ j. isListed (reasonAt input j)) (numbersFrom k m))
+changesFrom input k m = map (changeAt input) (keep (isChanged input) (numbersFrom k m))
 
 -- every change, by rising old number
 unfoldable pub changes : List ℕ → List Change
@@ -194,7 +201,7 @@ pub record Mends (input table₀ list₀ : List ℕ) (number tableLength listLen
 -- arc `old` of the input is arc `new` of the mended table
 pub record KeptAs (input : List ℕ) (old new : ℕ) : Type 0 where
   pub is-whole : old < wholeArcs input
-  pub may-stay : mayStay (faultAt input old) ≡ true
+  pub may-stay : stays input old ≡ true
   pub in-turn : newNumber input old ≡ new
   pub has-room : new < mostInTable
 
@@ -208,5 +215,5 @@ pub data Listed (input : List ℕ) : Change → Type 0 where
   equal-ends : (k : ℕ) → k < wholeArcs input → faultAt input k ≡ EqualEnds → Listed input (lost k 2)
   bad-length : (k : ℕ) → k < wholeArcs input → faultAt input k ≡ Length → Listed input (lost k 3)
   spare-zeroed : (k new : ℕ) → KeptAs input k new → faultAt input k ≡ Spare → Listed input (record { old = k; reason = 4; new = new })
-  past-limit : (k : ℕ) → k < wholeArcs input → mayStay (faultAt input k) ≡ true → mostInTable ≤ newNumber input k → Listed input (lost k 5)
+  past-limit : (k : ℕ) → k < wholeArcs input → stays input k ≡ true → mostInTable ≤ newNumber input k → Listed input (lost k 5)
   torn-end : (length input % 16 ≡ 0 → ⊥) → Listed input (lost (wholeArcs input) 6)

@@ -1,4 +1,4 @@
-// The kinds of data that the definitions and the code have in common, and the definitions' limits and fault numbers as the code has them (specs/Table.antt).
+// The kinds of data that the definitions and the code have in common, and the definitions' limits and the numbers of faults and reasons as the code has them (specs/Table.antt, specs/Mending.antt).
 // Everything else of this crate is definitions (specs/) and what is true of them (proofs/).
 ghost use mathlib.Core.Path.{_≡_};
 ghost use Rattle.problem.specs.Table.{faultNumber};

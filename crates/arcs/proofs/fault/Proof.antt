@@ -1,7 +1,7 @@
 -- `arcs::fault` meets its contract: each return is the case that the tests before it lead to. Assumes nothing.
 use native.Mathlib.Omega.{arith}
 use Rattle.problem.specs.Table.{faultOf}
-use Rattle.arcs.proofs.Picks.{picks}
+use Rattle.laws.proofs.Picks.{picks}
 use Rattle.arcs.proofs.fault.Statement.{statement}
 use Rattle.arcs.proofs.fault.Tie as tie
 

@@ -3,7 +3,7 @@ use mathlib.Core.Path.{_∙_}
 use native.Mathlib.Omega.{arith}
 use borrow.Author.Needs.{needs}
 use Rattle.problem.specs.Reply.{firstNumber, sizeChecks, refusal}
-use Rattle.arcs.proofs.Picks.{picks}
+use Rattle.laws.proofs.Picks.{picks}
 use Rattle.checks.proofs.CheckLaws.{refused-request, refused-arcs}
 use Rattle.checks.proofs.refusal.Statement.{statement}
 use Rattle.checks.proofs.refusal.Tie as tie

@@ -1,6 +1,6 @@
 -- `checks::request_refusal` meets its contract: each return is the case that the tests before it lead to. Assumes nothing.
 use native.Mathlib.Omega.{arith}
-use Rattle.arcs.proofs.Picks.{picks}
+use Rattle.laws.proofs.Picks.{picks}
 use Rattle.problem.specs.Reply.{firstNumber, requestChecks}
 use Rattle.checks.proofs.request_refusal.Statement.{statement}
 use Rattle.checks.proofs.request_refusal.Tie as tie

@@ -2,7 +2,7 @@
 use mathlib.Core.Path.{refl, sym, _∙_}
 use mathlib.Core.List.{[]}
 use borrow.Author.Needs.{needs}
-use Rattle.arcs.proofs.Picks.{pick-then, pick-else}
+use Rattle.laws.proofs.Picks.{pick-then, pick-else}
 use Rattle.problem.specs.Mending.{isLost, zeroed}
 use Rattle.octets.proofs.PutLaws.{puts-none, puts-as}
 use Rattle.mend.proofs.keep_arc.Statement.{statement}

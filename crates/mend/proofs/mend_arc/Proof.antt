@@ -4,9 +4,10 @@ use native.Mathlib.Omega.{arith}
 use borrow.Author.Needs.{needs}
 use Rattle.problem.specs.Table.{faultOf}
 use Rattle.problem.specs.Mending.{faultAt, reasonAt}
+use Rattle.problem.proofs.TableLaws.{record-part}
 use Rattle.problem.proofs.MendLaws.{new-below}
 use Rattle.octets.proofs.PutLaws.{puts-as}
-use Rattle.mend.proofs.StepLaws.{fault-is, part-is, reason-is, to-table, to-list, staying-next}
+use Rattle.mend.proofs.StepLaws.{fault-is, reason-is, to-table, to-list, staying-next}
 use Rattle.mend.proofs.mend_arc.Statement.{statement}
 use Rattle.mend.proofs.mend_arc.Tie as tie
 
@@ -32,7 +33,7 @@ returns c =
     let input = s .args .input .now in
     record {
       staying-is = staying-next input (s .args .k) (c .staying-with .ensures) (fault found) (s .pre .staying-is);
-      table-put = puts-as (to-table input (s .pre .is-whole) (why found) (part-is input (s .pre .is-whole))) (kept .keep-arc .ensures);
+      table-put = puts-as (to-table input (s .pre .is-whole) (why found) (record-part input (s .args .k))) (kept .keep-arc .ensures);
       list-put = puts-as (to-list input (s .pre .is-whole) (why found) (s .pre .staying-is)) (noted .note-change .ensures);
     }
 

@@ -1,7 +1,7 @@
 -- `mend::refusal` meets its contract: each return is the check that its test leads to. Assumes nothing.
 use native.Mathlib.Omega.{arith}
 use borrow.Author.Needs.{needs}
-use Rattle.arcs.proofs.Picks.{picks}
+use Rattle.laws.proofs.Picks.{picks}
 use Rattle.problem.specs.Reply.{firstNumber}
 use Rattle.problem.specs.Mending.{mendChecks}
 use Rattle.mend.proofs.refusal.Statement.{statement}

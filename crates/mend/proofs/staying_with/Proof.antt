@@ -1,7 +1,7 @@
 -- `mend::staying_with` meets its contract: each return is the case that the test leads to. Assumes nothing.
 use mathlib.Core.Path.{refl, sym, _∙_}
 use borrow.Author.Needs.{needs}
-use Rattle.arcs.proofs.Picks.{pick-then}
+use Rattle.laws.proofs.Picks.{pick-then}
 use Rattle.mend.proofs.staying_with.Statement.{statement}
 use Rattle.mend.proofs.staying_with.Tie as tie
 

@@ -1,6 +1,6 @@
 -- `mend::within_limit` meets its contract: each return is the case that its test leads to. Assumes nothing.
 use native.Mathlib.Omega.{arith}
-use Rattle.arcs.proofs.Picks.{picks}
+use Rattle.laws.proofs.Picks.{picks}
 use Rattle.mend.proofs.within_limit.Statement.{statement}
 use Rattle.mend.proofs.within_limit.Tie as tie
 
