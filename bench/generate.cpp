@@ -14,6 +14,9 @@
 //   generate cables PARALLEL COUNT               31 hops one behind the other, so many parallel cables each, one of 64 risks a cable
 //   generate exposed COUNT                       128 arcs; 64 risks, on average 8 an arc
 //
+// `generate spans KIND..` makes the same cases with span numbers: one for each pair of nodes that arcs join, whichever way these lead.
+// Without that word every span number is zero.
+//
 // Lengths and risks are those of document 000, section 3.4.1: an arc costs 1/b with b even, drawn from four ranges by one of three
 // distributions (its Table 4); its risks are drawn uniformly. The cost is brought to whole metres, 2,000,000 divided by b.
 #include "cases.h"
@@ -72,6 +75,24 @@ std::vector<uint8_t> random_table(Dice &dice, const Spans &spans, int distributi
     return table;
 }
 
+bool numbered = false;  // the word `spans` was given
+
+// The table's spans are 1, 2, 3.. in order of first appearance. Nothing is drawn for them, so that all else is as without.
+void number_spans(std::vector<uint8_t> &table) {
+    Spans met;
+    for (size_t at = 0; at < table.size(); at += RECORD) {
+        std::pair<int, int> ends = std::minmax(table[at], table[at + 1]);
+        size_t place = std::find(met.begin(), met.end(), ends) - met.begin();
+        if (place == met.size()) met.push_back(ends);
+        table[at + 2] = place + 1;  // at most 128, so that byte 3 stays zero
+    }
+}
+
+void put_case(Case c) {
+    if (numbered) number_spans(c.table);
+    write_case(c, stdout);
+}
+
 Spans read_spans(FILE *in) {
     Spans spans;
     char line[512];
@@ -102,7 +123,7 @@ void reference(uint32_t risks, uint32_t mean) {
             auto table = random_table(dice, spans, distribution, risks, mean);
             for (int pair = 0; pair < 5; pair++) {
                 uint32_t source = dice.below(nodes), terminal = (source + 1 + dice.below(nodes - 1)) % nodes;
-                write_case({source, terminal, NO_REACH_LIMIT, MOST_ALLOWANCE, table}, stdout);
+                put_case({source, terminal, NO_REACH_LIMIT, MOST_ALLOWANCE, table});
             }
         }
 }
@@ -113,7 +134,7 @@ void random_meshes(int nodes, int arcs, int count, uint32_t allowance) {
         Dice dice{uint64_t(1000 * nodes + seed)};
         Spans spans = random_spans(dice, nodes, arcs / 2);
         auto table = random_table(dice, spans, seed % DISTRIBUTIONS, 15, 4);
-        write_case({0, uint32_t(nodes / 2), NO_REACH_LIMIT, allowance, table}, stdout);
+        put_case({0, uint32_t(nodes / 2), NO_REACH_LIMIT, allowance, table});
     }
 }
 
@@ -129,7 +150,7 @@ void ducts(int count, bool at_the_door) {
         int into = 0;
         for (size_t at = 0; at_the_door && at < table.size(); at += RECORD)
             if (table[at + 1] == terminal) table[at + 15] |= duct[into++ % 3] >> 56;
-        write_case({0, terminal, NO_REACH_LIMIT, MOST_ALLOWANCE, table}, stdout);
+        put_case({0, terminal, NO_REACH_LIMIT, MOST_ALLOWANCE, table});
     }
 }
 
@@ -172,7 +193,7 @@ void crowded(const std::string &place, int ducts, int count) {
         if (place == "before") lay_ducts(table, {ducts, 63}, [&](int tail, int head) { return near[head] && tail != terminal; });
         else lay_ducts(table, {ducts, 63}, [&](int, int head) { return head == terminal; });
         if (place == "ends") lay_ducts(table, {ducts, 59}, [&](int tail, int) { return tail == source; });
-        write_case({source, terminal, NO_REACH_LIMIT, TRADE_ALLOWANCE, table}, stdout);
+        put_case({source, terminal, NO_REACH_LIMIT, TRADE_ALLOWANCE, table});
     }
 }
 
@@ -191,7 +212,7 @@ void rivers(int rivers, int ducts, uint32_t mean, int count) {
         auto table = random_table(dice, spans, seed % DISTRIBUTIONS, 40, mean);
         for (int river = 0; river < rivers; river++)
             lay_ducts(table, {ducts, 63 - ducts * river}, [&](int tail, int head) { return std::min(tail, head) / strip == river && std::max(tail, head) / strip == river + 1; });
-        write_case({0, NODES - 1, NO_REACH_LIMIT, TRADE_ALLOWANCE, table}, stdout);
+        put_case({0, NODES - 1, NO_REACH_LIMIT, TRADE_ALLOWANCE, table});
     }
 }
 
@@ -204,7 +225,7 @@ void ring(int count) {
         Ducts ducts{3, 63};
         for (int i = 0; i < 3; i++) put_arc(table, ring / 2, gate, random_metres(dice, seed % DISTRIBUTIONS), ducts.next());
         for (int i = 0; i < 3; i++) put_arc(table, gate, terminal, random_metres(dice, seed % DISTRIBUTIONS), 1ull << (40 + i));
-        write_case({0, uint32_t(terminal), NO_REACH_LIMIT, 1, table}, stdout);
+        put_case({0, uint32_t(terminal), NO_REACH_LIMIT, 1, table});
     }
 }
 
@@ -218,7 +239,7 @@ void cables(int parallel, int count) {
                 uint32_t metres = random_metres(dice, seed % DISTRIBUTIONS);
                 put_arc(table, v, v + 1, metres, 1ull << dice.below(64));
             }
-        write_case({0, NODES - 1, NO_REACH_LIMIT, 1, table}, stdout);
+        put_case({0, NODES - 1, NO_REACH_LIMIT, 1, table});
     }
 }
 
@@ -226,11 +247,12 @@ void exposed(int count) {
     for (int seed = 0; seed < count; seed++) {
         Dice dice{uint64_t(44000 + seed)};
         auto table = random_table(dice, random_spans(dice, NODES, TRADE_SPANS), seed % DISTRIBUTIONS, 64, 8);
-        write_case({0, NODES / 2, NO_REACH_LIMIT, TRADE_ALLOWANCE, table}, stdout);
+        put_case({0, NODES / 2, NO_REACH_LIMIT, TRADE_ALLOWANCE, table});
     }
 }
 
 int main(int, char **words) {
+    if (words[1] == std::string("spans")) numbered = true, words++;
     std::string kind = words[1];
     auto word = [&](int i) { return atoi(words[i]); };
     if (kind == "reference") reference(word(2), word(3));

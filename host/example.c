@@ -1,6 +1,6 @@
-/* A C host in small: writes a span table (mesh A of the rules), asks for a pair from node 0 to node 3, and prints
- * it in words; then asks once more with an arc that is too long, and prints the refusal; then mends that table, prints
- * what was lost, and plans with what is left. Build it with the release:
+/* A C host in small: writes a span table (mesh A of the rules, each arc in a span of its own), asks for a pair from
+ * node 0 to node 3, and prints it in words; then asks once more with an arc that is too long, and prints the refusal;
+ * then mends that table, prints what is lost, and plans with what is left. Build it with the release:
  * cc -std=c99 -I release host/example.c release/libfeshangul.a */
 #include "feshangul.h"
 
@@ -11,9 +11,10 @@
 enum { ARCS = 5, SOURCE = 0, TERMINAL = 3, REACH = 10000, ALLOWANCE = 1000 };
 
 /* Writes the record of arc number `arc` into the table. */
-static void put_arc(uint8_t *table, size_t arc, uint32_t tail, uint32_t head, uint32_t metres, uint64_t risks)
+static void put_arc(uint8_t *table, size_t arc, uint32_t tail, uint32_t head, uint32_t span, uint32_t metres,
+                    uint64_t risks)
 {
-    feshangul_put_arc(table + arc * FESHANGUL_ARC_BYTES, tail, head, metres, risks);
+    feshangul_put_arc(table + arc * FESHANGUL_ARC_BYTES, tail, head, span, metres, risks);
 }
 
 static void print_arc(const uint8_t *table, uint32_t arc)
@@ -28,12 +29,37 @@ static void print_verdict(const uint8_t *reply)
     printf("%s; mains tried: %lu\n", word, (unsigned long)feshangul_ranked(reply));
 }
 
-static void print_shared(const uint8_t *reply)
+/* Whether one of these arcs lies in the span. */
+static int crosses(const uint8_t *table, const uint8_t *arcs, uint32_t count, uint32_t span)
 {
-    printf("risks shared: %lu", (unsigned long)feshangul_shared(reply));
+    for (uint32_t place = 0; place < count; place++)
+        if (feshangul_span(table, arcs[place]) == span)
+            return 1;
+    return 0;
+}
+
+/* The reply says how many spans both routes cross, and the table which: those of the main that the standby crosses too,
+ * each once, though several arcs of the main may lie in it. */
+static void print_shared_spans(const uint8_t *table, const uint8_t *reply)
+{
+    const uint8_t *main_arcs = reply + FESHANGUL_REPLY_MAIN, *standby_arcs = reply + FESHANGUL_REPLY_STANDBY;
+
+    for (uint32_t place = 0; place < feshangul_main_arcs(reply); place++) {
+        uint32_t span = feshangul_span(table, main_arcs[place]);
+        if (span != FESHANGUL_SPAN_UNKNOWN && !crosses(table, main_arcs, place, span) &&
+            crosses(table, standby_arcs, feshangul_standby_arcs(reply), span))
+            printf(", span %lu", (unsigned long)span);
+    }
+}
+
+static void print_shared(const uint8_t *table, const uint8_t *reply)
+{
+    printf("shared: %lu, spans among them: %lu", (unsigned long)feshangul_shared(reply),
+           (unsigned long)feshangul_shared_spans(reply));
     for (unsigned risk = 0; risk <= FESHANGUL_RISK_MAX; risk++)
         if (feshangul_shared_risks(reply) & RISK(risk))
             printf(", risk %u", risk);
+    print_shared_spans(table, reply);
     printf("; on every route: %lu\n", (unsigned long)feshangul_floor(reply));
 }
 
@@ -64,9 +90,6 @@ static void print_refusal(uint32_t number)
     case FESHANGUL_ARC_METRES_RANGE:
         printf("refused: arc %lu is longer than %u metres\n", arc, FESHANGUL_ARC_METRES_MAX);
         break;
-    case FESHANGUL_ARC_SPARE_USED:
-        printf("refused: arc %lu has bytes 2 and 3 other than zero\n", arc);
-        break;
     default:
         printf("refused %lu; feshangul.h says what to do\n", (unsigned long)number);
     }
@@ -82,7 +105,7 @@ static uint32_t plan_and_print(const uint8_t *table, size_t table_len)
         print_refusal(number);
     } else {
         print_verdict(reply);
-        print_shared(reply);
+        print_shared(table, reply);
         print_routes(table, reply);
     }
     return number;
@@ -90,11 +113,14 @@ static uint32_t plan_and_print(const uint8_t *table, size_t table_len)
 
 static void print_change(const uint8_t *change)
 {
-    static const char *const reasons[] = { "", "has an end that is no node", "ends where it begins", "is too long",
-        "had bytes 2 and 3 other than zero", "has 128 arcs before it", "is torn" };
-    const char *end = feshangul_change_new(change) == FESHANGUL_LOST ? "; it is lost" : "; it is kept";
+    static const char *const reasons[] = {
+        [FESHANGUL_LOST_NODE] = "has an end that is no node", [FESHANGUL_LOST_ENDS] = "ends where it begins",
+        [FESHANGUL_LOST_LENGTH] = "is too long", [FESHANGUL_LOST_PAST] = "has 128 arcs before it",
+        [FESHANGUL_LOST_TORN] = "is torn",
+    };
 
-    printf("arc %lu %s%s\n", (unsigned long)feshangul_change_old(change), reasons[feshangul_change_reason(change)], end);
+    printf("arc %lu %s; it is lost\n", (unsigned long)feshangul_change_old(change),
+           reasons[feshangul_change_reason(change)]);
 }
 
 /* Mends a table and plans with what is left; returns the number of the planning. */
@@ -116,15 +142,15 @@ int main(void)
 {
     uint8_t table[ARCS * FESHANGUL_ARC_BYTES];
 
-    put_arc(table, 0, 0, 1, 1000, RISK(0));
-    put_arc(table, 1, 1, 3, 4000, RISK(1));
-    put_arc(table, 2, 0, 2, 4000, RISK(2));
-    put_arc(table, 3, 2, 3, 1000, RISK(3));
-    put_arc(table, 4, 1, 2, 1000, RISK(4));
+    put_arc(table, 0, 0, 1, 11, 1000, RISK(0));
+    put_arc(table, 1, 1, 3, 12, 4000, RISK(1));
+    put_arc(table, 2, 0, 2, 13, 4000, RISK(2));
+    put_arc(table, 3, 2, 3, 14, 1000, RISK(3));
+    put_arc(table, 4, 1, 2, 15, 1000, RISK(4));
 
     int planned = plan_and_print(table, sizeof table) == FESHANGUL_SETTLED;
 
-    put_arc(table, 2, 0, 2, FESHANGUL_ARC_METRES_MAX + 1, RISK(2));
+    put_arc(table, 2, 0, 2, 13, FESHANGUL_ARC_METRES_MAX + 1, RISK(2));
     int refused = feshangul_reason(plan_and_print(table, sizeof table)) == FESHANGUL_ARC_METRES_RANGE;
     int mended = mend_and_plan(table, sizeof table) == FESHANGUL_SETTLED;
     return planned && refused && mended ? 0 : 1;

@@ -1,4 +1,5 @@
-/* Feshangul: two fibre routes, a main and a standby, that share as few risks as possible at the least total length.
+/* Feshangul: two fibre routes, a main and a standby, that share as few risks and spans as possible, at the least total
+ * length.
  *
  * This header is all that a C or C++ host includes. Fill a span table, call feshangul_plan, look at the number it
  * returns, and where that is 0 or 1 read the reply with the functions at the end. host/example.c does just that.
@@ -8,7 +9,8 @@
  * library needs memcpy and memset of its host and nothing else.
  *
  * A route is a list of arcs, each beginning where the one before ends, that meets no node twice. Routes are ranked
- * by length, equal lengths by the first arc number that differs. The main and the standby may be the same route.
+ * by length, equal lengths by the first arc number that differs. The main and the standby may be the same route. What
+ * they share is each risk on both, and each span that both cross, as far as the table says which span an arc lies in.
  *
  * docs/FORMATS.md has the records of table and reply byte by byte, and when each number is returned.
  */
@@ -22,8 +24,8 @@
 extern "C" {
 #endif
 
-#define FESHANGUL_VERSION "0.4.0"
-#define FESHANGUL_VERSION_NUMBER 400u    /* 10,000 times the first part, and 100 times the second, and the third */
+#define FESHANGUL_VERSION "0.5.0"
+#define FESHANGUL_VERSION_NUMBER 500u    /* 10,000 times the first part, and 100 times the second, and the third */
 
 /* ---- Sizes and limits ------------------------------------------------------------------------------------- */
 
@@ -33,20 +35,28 @@ extern "C" {
 #define FESHANGUL_REPLY_BYTES 96u        /* the reply record; a longer buffer keeps its bytes from 96 on */
 #define FESHANGUL_NODE_MAX 31u           /* nodes are 0 to 31 */
 #define FESHANGUL_RISK_MAX 63u           /* risks are 0 to 63 */
+#define FESHANGUL_SPAN_MAX 65535u        /* spans are 1 to 65,535 */
+#define FESHANGUL_SPAN_UNKNOWN 0u        /* stands for a span that is not known */
 #define FESHANGUL_ROUTE_ARCS_MAX 31u     /* 32 nodes, none met twice */
+#define FESHANGUL_SHARED_MAX 95u         /* 64 risks, and 31 spans */
 #define FESHANGUL_ARC_METRES_MAX 2000000u
 #define FESHANGUL_REACH_MAX 62000000u    /* 31 arcs of 2,000,000 metres: no route is longer */
 #define FESHANGUL_ALLOWANCE_MAX 1000000u
 #define FESHANGUL_MEND_BYTES_MAX 4096u   /* the longest table that is mended */
-#define FESHANGUL_CHANGE_BYTES 16u       /* one record of the list of what was changed or lost */
-#define FESHANGUL_STACK_BYTES 65536u     /* stack to have left for a call; the most measured is 33,256 */
+#define FESHANGUL_CHANGE_BYTES 16u       /* one record of the list of what is lost */
+#define FESHANGUL_STACK_BYTES 65536u     /* stack to have left for a call; the most measured is 48,305 */
 
 /* ---- The span table ---------------------------------------------------------------------------------------
  *
  * One record for each arc, arc 0 first, none between or before them. Where a field begins, from the record's first
- * byte; the bytes between are to be zero. docs/FORMATS.md says what each holds; feshangul_put_arc writes one. */
+ * byte; docs/FORMATS.md says what each holds; feshangul_put_arc writes one.
+ *
+ * Give both directions of a span, and all cables in one trench, the same span number: arcs of equal numbers lie in one
+ * span, wherever they stand in the table. FESHANGUL_SPAN_UNKNOWN counts for no span, not even on an arc that both
+ * routes take, so a pair looks safer than it is where a number is left out. */
 #define FESHANGUL_ARC_TAIL 0u
 #define FESHANGUL_ARC_HEAD 1u
+#define FESHANGUL_ARC_SPAN 2u
 #define FESHANGUL_ARC_METRES 4u
 #define FESHANGUL_ARC_RISKS 8u
 
@@ -77,9 +87,9 @@ typedef struct {
 } feshangul_mended;
 
 /* Mends a table from the field: writes the table that is left once every arc with a bad node, equal ends or a bad
- * length, every arc past 128 kept ones and a torn end are taken out and the spare bytes of what is kept are made zero;
- * and the list of what was changed or lost. feshangul_plan refuses a mended table for none of its bytes. A clean table
- * comes out as it is, with an empty list, and so does a mended one.
+ * length, every arc past 128 kept ones and a torn end are taken out, each kept record as it was; and the list of what
+ * is lost. feshangul_plan refuses a mended table for none of its bytes. A clean table comes out as it is, with an empty
+ * list, and so does a mended one.
  *
  * input, input_len    the table from the field, up to FESHANGUL_MEND_BYTES_MAX; only read. NULL with 0 is an empty one.
  * table, table_size   where the mended table goes, and
@@ -91,35 +101,35 @@ typedef struct {
 feshangul_mended feshangul_mend(const uint8_t *input, size_t input_len, uint8_t *table, size_t table_size,
                                 uint8_t *list, size_t list_size);
 
-/* The list has one record for each arc that was changed or lost and one for a torn end, by rising old number. Where a
- * field of it begins; the bytes between and behind them are zero. */
+/* The list has one record for each arc that is lost and one for a torn end, by rising old number. Where a field of it
+ * begins; the bytes between and behind them are zero. */
 #define FESHANGUL_CHANGE_OLD 0u     /* the arc's number in the input; a torn end counts as the arc it would have been */
 #define FESHANGUL_CHANGE_REASON 2u  /* one byte, one of those below */
-#define FESHANGUL_CHANGE_NEW 4u     /* its number in the mended table, or FESHANGUL_LOST */
+#define FESHANGUL_CHANGE_NEW 4u     /* FESHANGUL_LOST in each record: a kept arc stands in none, also where it shifts */
 #define FESHANGUL_LOST 65535u
 
-/* Why, of several reasons the first. All but FESHANGUL_SPARE_ZEROED say that the arc is lost: ask the operator. */
+/* Why, of several reasons the first: ask the operator. 4 has ended and is given to nothing else: it was for a kept arc
+ * whose bytes 2 and 3 were made zero, and they are its span's number now. */
 #define FESHANGUL_LOST_NODE 1u    /* its tail or head is no node */
 #define FESHANGUL_LOST_ENDS 2u    /* its tail equals its head */
 #define FESHANGUL_LOST_LENGTH 3u  /* it is longer than FESHANGUL_ARC_METRES_MAX */
-#define FESHANGUL_SPARE_ZEROED 4u /* it is kept, and its bytes 2 and 3 were made zero */
 #define FESHANGUL_LOST_PAST 5u    /* it has no such fault, and FESHANGUL_ARCS_MAX are kept before it */
 #define FESHANGUL_LOST_TORN 6u    /* the input's last bytes are no whole record */
 
 /* ---- Numbers returned, and what to do on each --------------------------------------------------------------
  *
  * With 0 and 1 a reply is written. All others are refusals: nothing was planned and the reply buffer is as it was.
- * A fault of an arc comes as its number, 20 to 23, plus 256 times the number of the arc: take a number apart with the
+ * A fault of an arc comes as its number, 20 to 22, plus 256 times the number of the arc: take a number apart with the
  * two functions below. Of several faults the first is told, in the order in which they stand here, so mend it and ask
  * again; of several faulty arcs the lowest, with the first of its faults. Take what is not listed here as a refusal.
  *
- * 9 and 11 have ended and are given to nothing else: 9 was for any fault of any arc, and 11 for a route of over
- * 62,000,000 m, and there is none. */
+ * 9, 11 and 23 have ended and are given to nothing else: 9 was for any fault of any arc, 11 for a route of over
+ * 62,000,000 m, and there is none, and 23 for bytes 2 and 3 of an arc, which may hold any number now. */
 
 /* Why: one of the numbers below, which is the number itself where it is about no arc. */
 static inline uint32_t feshangul_reason(uint32_t number) { return number % 256u; }
 
-/* Which arc, with a reason of 20 to 23: its record begins FESHANGUL_ARC_BYTES times this from the table's beginning. */
+/* Which arc, with a reason of 20 to 22: its record begins FESHANGUL_ARC_BYTES times this from the table's beginning. */
 static inline uint32_t feshangul_faulty_arc(uint32_t number) { return number / 256u; }
 
 /* Settled. Use the pair: it is the first of all pairs of routes, and a larger allowance gives the same reply. */
@@ -152,7 +162,7 @@ static inline uint32_t feshangul_faulty_arc(uint32_t number) { return number / 2
 #define FESHANGUL_ALLOWANCE_RANGE 8u
 
 /* The arc's tail or head is no node, 0 to FESHANGUL_NODE_MAX. Give its ends numbers in that range; 255 is what
- * feshangul_put_arc writes for a node that does not fit its byte. */
+ * feshangul_put_arc writes for a node that does not fit its byte, and for the tail where the span does not fit. */
 #define FESHANGUL_ARC_NODE_RANGE 20u
 
 /* The arc's tail equals its head. Mend one of them, or leave the arc out; that shifts the numbers of those behind it. */
@@ -161,9 +171,6 @@ static inline uint32_t feshangul_faulty_arc(uint32_t number) { return number / 2
 /* The arc is longer than FESHANGUL_ARC_METRES_MAX. See whether its length was given in metres; an arc that is truly
  * longer cannot be planned with, unless as several in a row. */
 #define FESHANGUL_ARC_METRES_RANGE 22u
-
-/* The arc's bytes 2 and 3 are not zero. Write the record with feshangul_put_arc. */
-#define FESHANGUL_ARC_SPARE_USED 23u
 
 /* No route leads from source to terminal within the reach. Tell the customer, or ask with a larger reach. */
 #define FESHANGUL_NO_ROUTE 10u
@@ -184,6 +191,7 @@ static inline uint32_t feshangul_faulty_arc(uint32_t number) { return number / 2
 #define FESHANGUL_REPLY_FLOOR 2u
 #define FESHANGUL_REPLY_MAIN_ARCS 3u
 #define FESHANGUL_REPLY_STANDBY_ARCS 4u
+#define FESHANGUL_REPLY_SHARED_SPANS 5u
 #define FESHANGUL_REPLY_RANKED 8u
 #define FESHANGUL_REPLY_MAIN_METRES 12u
 #define FESHANGUL_REPLY_STANDBY_METRES 16u
@@ -206,6 +214,12 @@ static inline uint64_t feshangul_u64(const uint8_t *at)
     return (uint64_t)feshangul_u32(at) | (uint64_t)feshangul_u32(at + 4) << 32;
 }
 
+static inline void feshangul_put_u16(uint8_t *at, uint32_t number)
+{
+    at[0] = (uint8_t)number;
+    at[1] = (uint8_t)(number >> 8);
+}
+
 static inline void feshangul_put_u32(uint8_t *at, uint32_t number)
 {
     for (int byte = 0; byte < 4; byte++)
@@ -218,17 +232,25 @@ static inline void feshangul_put_u64(uint8_t *at, uint64_t number)
     feshangul_put_u32(at + 4, (uint32_t)(number >> 32));
 }
 
-/* ---- A writer of arcs --------------------------------------------------------------------------------------- */
+/* ---- A writer of arcs, and a reader of their spans ------------------------------------------------------------ */
 
-/* Writes one arc, FESHANGUL_ARC_BYTES from `record` on: from node `tail` to node `head`, `metres` long, with bit r of
- * `risks` set when risk r touches it. A node that does not fit its byte is written as 255, which the planner refuses. */
-static inline void feshangul_put_arc(uint8_t *record, uint32_t tail, uint32_t head, uint32_t metres, uint64_t risks)
+/* Writes one arc, FESHANGUL_ARC_BYTES from `record` on: from node `tail` to node `head`, in span `span`, `metres` long,
+ * with bit r of `risks` set when risk r touches it. A node that does not fit its byte is written as 255, which the
+ * planner refuses. Of a span every number that fits is one, so where it is over FESHANGUL_SPAN_MAX the tail is 255. */
+static inline void feshangul_put_arc(uint8_t *record, uint32_t tail, uint32_t head, uint32_t span, uint32_t metres,
+                                     uint64_t risks)
 {
-    feshangul_put_u32(record, 0);
-    record[FESHANGUL_ARC_TAIL] = (uint8_t)(tail > 255 ? 255 : tail);
+    record[FESHANGUL_ARC_TAIL] = (uint8_t)(tail > 255 || span > FESHANGUL_SPAN_MAX ? 255 : tail);
     record[FESHANGUL_ARC_HEAD] = (uint8_t)(head > 255 ? 255 : head);
+    feshangul_put_u16(record + FESHANGUL_ARC_SPAN, span);
     feshangul_put_u32(record + FESHANGUL_ARC_METRES, metres);
     feshangul_put_u64(record + FESHANGUL_ARC_RISKS, risks);
+}
+
+/* The span number of arc number `arc` of a table, or FESHANGUL_SPAN_UNKNOWN. */
+static inline uint32_t feshangul_span(const uint8_t *table, uint32_t arc)
+{
+    return feshangul_u16(table + arc * FESHANGUL_ARC_BYTES + FESHANGUL_ARC_SPAN);
 }
 
 /* ---- Readers of a reply -------------------------------------------------------------------------------------
@@ -238,9 +260,14 @@ static inline void feshangul_put_arc(uint8_t *record, uint32_t tail, uint32_t he
 /* FESHANGUL_SETTLED or FESHANGUL_STOPPED */
 static inline uint32_t feshangul_verdict(const uint8_t *reply) { return reply[FESHANGUL_REPLY_VERDICT]; }
 
+/* how many risks and spans both routes share, at most FESHANGUL_SHARED_MAX */
 static inline uint32_t feshangul_shared(const uint8_t *reply) { return reply[FESHANGUL_REPLY_SHARED]; }
 
+/* how many risks and spans are on every route within the reach: no pair shares fewer */
 static inline uint32_t feshangul_floor(const uint8_t *reply) { return reply[FESHANGUL_REPLY_FLOOR]; }
+
+/* how many of those that both routes share are spans; host/example.c tells which */
+static inline uint32_t feshangul_shared_spans(const uint8_t *reply) { return reply[FESHANGUL_REPLY_SHARED_SPANS]; }
 
 static inline uint32_t feshangul_main_arcs(const uint8_t *reply) { return reply[FESHANGUL_REPLY_MAIN_ARCS]; }
 
@@ -258,6 +285,7 @@ static inline uint32_t feshangul_standby_metres(const uint8_t *reply)
     return feshangul_u32(reply + FESHANGUL_REPLY_STANDBY_METRES);
 }
 
+/* bit r is set when both routes share risk r */
 static inline uint64_t feshangul_shared_risks(const uint8_t *reply)
 {
     return feshangul_u64(reply + FESHANGUL_REPLY_SHARED_RISKS);

@@ -2,7 +2,7 @@
 
 use crate::ask::Given;
 use crate::listing::{answer, Answer, Plan, REPLY_BYTES};
-use crate::mesh::{arcs_of, arcs_on_paper, number, risks_on_paper, table_bytes, torn_end, Case, ARC_BYTES};
+use crate::mesh::{arcs_of, arcs_on_paper, number, risks_on_paper, table_bytes, torn_end, Arc, Case, ARC_BYTES};
 use std::time::{Duration, Instant};
 
 /// So much of a ranking is printed.
@@ -13,13 +13,14 @@ const PATIENCE: Duration = Duration::from_secs(60);
 /// has up to so many arcs.
 const PARTS: usize = 256;
 
-const REPLY_FIELDS: [(&str, usize, usize); 13] = [
+const REPLY_FIELDS: [(&str, usize, usize); 14] = [
     ("verdict", 0, 1),
     ("shared count", 1, 2),
     ("floor", 2, 3),
     ("arcs in main", 3, 4),
     ("arcs in standby", 4, 5),
-    ("zero", 5, 8),
+    ("common spans", 5, 6),
+    ("zero", 6, 8),
     ("ranked", 8, 12),
     ("metres of main", 12, 16),
     ("metres of standby", 16, 20),
@@ -67,23 +68,31 @@ pub fn smaller_tables(table: &[u8]) -> Vec<Vec<u8>> {
     tables
 }
 
-/// The case with a risk taken off all its arcs, where any has it.
-fn without_risk(case: &Case, risk: u32) -> Option<Case> {
-    let mut arcs = arcs_of(&case.table);
-    if arcs.iter().all(|arc| arc.risks >> risk & 1 == 0) {
-        return None;
-    }
-    arcs.iter_mut().for_each(|arc| arc.risks &= !(1 << risk));
-    Some(Case { table: [&table_bytes(&arcs), torn_end(&case.table)].concat(), ..case.clone() })
+/// The table with the same taken off all its arcs, where that changes any.
+pub fn with_less_on_arcs(table: &[u8], take_off: impl Fn(&mut Arc)) -> Option<Vec<u8>> {
+    let mut arcs = arcs_of(table);
+    arcs.iter_mut().for_each(take_off);
+    let less = [&table_bytes(&arcs), torn_end(table)].concat();
+    (less != table).then_some(less)
 }
 
-/// What to try in place of a case: without many arcs, without one, without a risk, with the plainest buffer.
+/// The tables that are left when a risk is taken off all arcs, or a span.
+fn tables_with_less_on_arcs(table: &[u8]) -> Vec<Vec<u8>> {
+    let without_risk = |risk: u32| with_less_on_arcs(table, |arc| arc.risks &= !(1 << risk));
+    let without_span = |span| with_less_on_arcs(table, |arc| arc.span = if arc.span == span { 0 } else { arc.span });
+    let mut spans: Vec<u16> = arcs_of(table).iter().map(|arc| arc.span).collect();
+    spans.sort_unstable();
+    spans.dedup();
+    (0..64).filter_map(without_risk).chain(spans.into_iter().filter_map(without_span)).collect()
+}
+
+/// What to try in place of a case: without many arcs, without one, without a risk, without a span, with the plainest
+/// buffer.
 pub fn smaller_cases(case: &Case) -> Vec<Case> {
     let mut cases = Vec::new();
-    for table in smaller_tables(&case.table) {
+    for table in smaller_tables(&case.table).into_iter().chain(tables_with_less_on_arcs(&case.table)) {
         cases.extend(with_fitting_allowances(case, Case { table, ..case.clone() }));
     }
-    cases.extend((0..64).filter_map(|risk| without_risk(case, risk)).flat_map(|s| with_fitting_allowances(case, s)));
     if case.reply_len > REPLY_BYTES {
         cases.push(Case { reply_len: REPLY_BYTES, ..case.clone() });
     }
@@ -143,11 +152,12 @@ fn ranking_on_paper(plan: &Plan) -> String {
     for (place, route) in plan.ranking.iter().enumerate().take(ROUTES_SHOWN) {
         let pair = &plan.best[place];
         text += &format!(
-            "  {}. {} {} m {}; best({}) = ({}, {}), shared {}, total {}\n",
+            "  {}. {} {} m {} spans {:?}; best({}) = ({}, {}), shared {}, total {}\n",
             place + 1,
             arcs_on_paper(&route.arcs),
             route.metres,
             risks_on_paper(route.risks),
+            route.spans,
             place + 1,
             pair.main,
             pair.standby,

@@ -11,6 +11,7 @@ pub const NODE_MAX: u32 = 31;
 pub const METRES_MAX: u32 = 2_000_000;
 pub const REACH_MAX: u32 = 62_000_000;
 pub const ALLOWANCE_MAX: u32 = 1_000_000;
+const SHARED_MAX: u32 = 64 + 31;
 const REQUEST_BYTES: usize = 16;
 const ROUTE_BYTES: usize = 32;
 const NO_ARC: u8 = 255;
@@ -23,6 +24,17 @@ pub struct Route {
     pub metres: u32,
     pub arcs: Vec<u8>,
     pub risks: u64,
+    /// The spans that it crosses and that are known, each once, by rising number.
+    pub spans: Vec<u16>,
+}
+
+/// However often an arc of it lies in a span, that is one span.
+fn spans_crossed(route: &[u8], arcs: &[Arc]) -> Vec<u16> {
+    let mut spans: Vec<u16> = route.iter().map(|&arc| arcs[usize::from(arc)].span).collect();
+    spans.sort_unstable();
+    spans.dedup();
+    spans.retain(|&span| span != 0);
+    spans
 }
 
 /// The growth of routes depth first. It gives up when its patience, a number of arcs looked at, is at an end.
@@ -37,7 +49,8 @@ struct Growth<'a> {
 impl Growth<'_> {
     fn grow(&mut self, node: u8, met: &[u8], route: &Route) -> ControlFlow<()> {
         if node == self.terminal {
-            self.routes.push(route.clone());
+            let spans = spans_crossed(&route.arcs, self.arcs);
+            self.routes.push(Route { spans, ..route.clone() });
             return ControlFlow::Continue(());
         }
         for (place, arc) in self.arcs.iter().enumerate() {
@@ -66,7 +79,7 @@ pub fn ranking_within(patience: usize, arcs: &[Arc], request: &Request) -> Optio
     let source = request.source as u8;
     let mut growth =
         Growth { arcs, terminal: request.terminal as u8, reach: request.reach, patience, routes: Vec::new() };
-    let none = Route { metres: 0, arcs: Vec::new(), risks: 0 };
+    let none = Route { metres: 0, arcs: Vec::new(), risks: 0, spans: Vec::new() };
     if growth.grow(source, &[source], &none).is_break() {
         return None;
     }
@@ -81,6 +94,37 @@ fn hold_no_path_longer(arcs: &[Arc], request: &Request) {
     let paths = ranking_within(usize::MAX, arcs, &endless).expect("endless patience");
     assert!(paths.iter().all(|path| path.arcs.len() <= 31), "a path has at most 31 arcs");
     assert!(paths.iter().all(|path| path.metres <= REACH_MAX), "no path is longer than the largest reach");
+}
+
+// ---- What routes share ----
+
+/// The risks and the spans that lie on each of some routes.
+pub struct Common {
+    pub risks: u64,
+    pub spans: Vec<u16>,
+}
+
+/// Of at least one route.
+pub fn common(routes: &[&Route]) -> Common {
+    let on_all = |span: &u16| routes.iter().all(|route| route.spans.contains(span));
+    Common {
+        risks: routes.iter().fold(u64::MAX, |common, route| common & route.risks),
+        spans: routes[0].spans.iter().copied().filter(on_all).collect(),
+    }
+}
+
+/// How much routes share: of two it is the shared count, of all the floor.
+pub type Count = fn(&[&Route]) -> u32;
+
+/// T-03: common risks, and the different spans that all of them cross.
+pub fn risks_and_spans(routes: &[&Route]) -> u32 {
+    let common = common(routes);
+    common.risks.count_ones() + common.spans.len() as u32
+}
+
+/// 01 as it was before T-03: common risks alone.
+pub fn risks_alone(routes: &[&Route]) -> u32 {
+    routes.iter().fold(u64::MAX, |common, route| common & route.risks).count_ones()
 }
 
 // ---- Pairs, and when a reply is settled ----
@@ -103,19 +147,19 @@ pub struct Plan {
     pub settled_at: usize,
 }
 
-fn pair(ranking: &[Route], main: usize, standby: usize) -> Pair {
+fn pair(count: Count, ranking: &[Route], main: usize, standby: usize) -> Pair {
     let (p, q) = (&ranking[main - 1], &ranking[standby - 1]);
-    Pair { shared: (p.risks & q.risks).count_ones(), total: p.metres + q.metres, main, standby }
+    Pair { shared: count(&[p, q]), total: p.metres + q.metres, main, standby }
 }
 
 impl Plan {
-    /// The plan over a ranking of at least one route.
-    pub fn new(ranking: Vec<Route>) -> Plan {
+    /// The plan over a ranking of at least one route, where so much counts as shared.
+    pub fn new(ranking: Vec<Route>, count: Count) -> Plan {
         let n = ranking.len();
-        let floor = ranking.iter().fold(u64::MAX, |common, route| common & route.risks).count_ones();
+        let floor = count(&ranking.iter().collect::<Vec<_>>());
         let mut best: Vec<Pair> = Vec::new();
         for main in 1..=n {
-            let of_main = (1..=n).map(|standby| pair(&ranking, main, standby)).min().expect("a standby");
+            let of_main = (1..=n).map(|standby| pair(count, &ranking, main, standby)).min().expect("a standby");
             let so_far = best.last().copied().unwrap_or(of_main);
             best.push(so_far.min(of_main));
         }
@@ -137,6 +181,10 @@ impl Plan {
         assert!(self.best.iter().all(|pair| pair.main <= pair.standby), "the main's rank never exceeds the standby's");
         assert!(self.best.iter().all(|pair| pair.shared >= self.floor), "no pair shares fewer than the floor");
         assert!(
+            self.best.iter().all(|pair| pair.shared <= SHARED_MAX),
+            "no pair shares more than 64 risks and 31 spans"
+        );
+        assert!(
             self.best[self.settled_at - 1] == self.best[self.ranking.len() - 1],
             "a settled pair is the first of all"
         );
@@ -155,7 +203,7 @@ pub struct Reply {
 }
 
 impl Reply {
-    fn from_plan(plan: &Plan, allowance: u32) -> Reply {
+    pub fn from_plan(plan: &Plan, allowance: u32) -> Reply {
         let ranked = plan.settled_at.min(allowance as usize);
         let pair = plan.best[ranked - 1];
         Reply {
@@ -168,8 +216,9 @@ impl Reply {
         }
     }
 
-    pub fn shared_risks(&self) -> u64 {
-        self.main.risks & self.standby.risks
+    /// What both routes have, each kind by itself.
+    pub fn common(&self) -> Common {
+        common(&[&self.main, &self.standby])
     }
 
     pub fn verdict(&self) -> &'static str {
@@ -181,13 +230,14 @@ impl Reply {
     }
 
     pub fn bytes(&self) -> Vec<u8> {
+        let Common { risks, spans } = self.common();
         let mut bytes = vec![u8::from(!self.settled), self.shared as u8, self.floor as u8];
-        bytes.extend([self.main.arcs.len() as u8, self.standby.arcs.len() as u8, 0, 0, 0]);
+        bytes.extend([self.main.arcs.len() as u8, self.standby.arcs.len() as u8, spans.len() as u8, 0, 0]);
         bytes.extend(self.ranked.to_le_bytes());
         bytes.extend(self.main.metres.to_le_bytes());
         bytes.extend(self.standby.metres.to_le_bytes());
         bytes.extend([0; 4]);
-        bytes.extend(self.shared_risks().to_le_bytes());
+        bytes.extend(risks.to_le_bytes());
         for route in [&self.main, &self.standby] {
             let mut field = route.arcs.clone();
             field.resize(ROUTE_BYTES, NO_ARC);
@@ -210,12 +260,14 @@ impl Reply {
         text
     }
 
-    /// What 01 says of a reply in its worked cases, each fact in its words.
+    /// What 01 says of a reply in its worked cases, each fact in its words; and the common spans alone.
     pub fn facts(&self) -> Vec<String> {
+        let Common { risks, spans } = self.common();
         vec![
             self.verdict().to_string(),
             format!("shared {}", self.shared),
-            format!("field {}", self.shared_risks()),
+            format!("field {risks}"),
+            format!("spans {}", spans.len()),
             format!("floor {}", self.floor),
             format!("ranked {}", self.ranked),
             format!("main {}", arcs_on_paper(&self.main.arcs)),
@@ -257,12 +309,11 @@ impl Answer {
 }
 
 /// The numbers of faults that an arc can have, in order, and whether it has each.
-pub fn arc_checks(arc: &Arc) -> [(u32, bool); 4] {
+pub fn arc_checks(arc: &Arc) -> [(u32, bool); 3] {
     [
         (20, u32::from(arc.tail) > NODE_MAX || u32::from(arc.head) > NODE_MAX),
         (21, arc.tail == arc.head),
         (22, arc.metres > METRES_MAX),
-        (23, arc.spare != 0),
     ]
 }
 
@@ -286,6 +337,17 @@ pub fn faults(case: &Case) -> Vec<u32> {
     checks.iter().filter(|check| check.1).map(|check| check.0).collect()
 }
 
+/// Holds a reply to T-03's "tables with zero there answer as before": where no span is known, to that of 01 as it was.
+fn hold_to_answer_before(plan: &Plan, reply: &Reply, allowance: u32) {
+    let before = Reply::from_plan(&Plan::new(plan.ranking.clone(), risks_alone), allowance);
+    assert!(reply.bytes() == before.bytes(), "without spans the reply is as before");
+    assert!(reply.bytes()[5] == 0, "without spans none is common");
+}
+
+pub fn has_spans(arcs: &[Arc]) -> bool {
+    arcs.iter().any(|arc| arc.span != 0)
+}
+
 pub fn answer(case: &Case) -> Answer {
     if let Some(&first) = faults(case).first() {
         return Answer::Refused(first);
@@ -296,9 +358,12 @@ pub fn answer(case: &Case) -> Answer {
     if ranking.is_empty() {
         return Answer::Refused(10);
     }
-    let plan = Plan::new(ranking);
+    let plan = Plan::new(ranking, risks_and_spans);
     plan.hold_to_what_is_said();
     let reply = Reply::from_plan(&plan, case.request.allowance);
+    if !has_spans(&arcs) {
+        hold_to_answer_before(&plan, &reply, case.request.allowance);
+    }
     Answer::Planned(plan, reply)
 }
 

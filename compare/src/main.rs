@@ -1,6 +1,6 @@
 //! The separate program: holds the planner to document 01, with the requests that have landed, by listing every route
-//! and every pair; and the mender to T-01, by mending each table itself. Its rules are read anew from those; it shares
-//! no code and no definition with the library.
+//! and every pair; and the mender to T-01 and T-03, by mending each table itself. Its rules are read anew from those;
+//! it shares no code and no definition with the library.
 //!
 //!   compare listing                        holds the listing itself to the cases that 01 works by hand, and the mender
 //!                                          here to tables mended by hand
@@ -8,7 +8,8 @@
 //!   compare mends COUNT SEED COMMAND..     compares those tables and COUNT random ones, through the driver COMMAND
 //!   compare texts COUNT SEED COMMAND..     compares what the program COMMAND prints for those cases and COUNT inputs
 //!
-//! It ends with status 1 at any difference, and prints the smallest mesh or table that it finds for the first one.
+//! It ends with status 1 at any difference, and prints the smallest mesh or table that it finds for the first one; and
+//! where many random cases did not meet something that they are for.
 
 mod ask;
 mod cases;
@@ -22,6 +23,7 @@ mod mender_difference;
 mod mender_random;
 mod mesh;
 mod random;
+mod span_counts;
 mod trade;
 
 use ask::{Answers, Call, Given};
@@ -33,6 +35,7 @@ use mender_counts::MenderCounts;
 use mender_difference::{outcome_on_paper, smaller_mends};
 use mesh::Case;
 use random::Dice;
+use span_counts::{MendSpans, PlanSpans};
 use std::process::exit;
 use std::time::Instant;
 use trade::Shape;
@@ -145,18 +148,23 @@ fn compare_calls(count: u64, seed: u64, command: &[String]) -> bool {
     let mut all: Vec<(Case, Option<Shape>)> = cases::all().into_iter().map(|row| (row.case, None)).collect();
     all.extend((0..count).map(|_| random::case(&mut dice)));
     let (all, shapes): (Vec<Case>, Vec<Option<Shape>>) = all.into_iter().unzip();
+    let worked = all.len() - count as usize;
 
-    let mut counts = Counts::default();
+    let (mut counts, mut spans) = (Counts::default(), PlanSpans::default());
     let compared = compare("calls", seed, command, &all, |place| {
         let answer = answer(&all[place]);
         counts.add(Some(&all[place]), shapes[place], &answer);
+        if place >= worked {
+            spans.add(&all[place], &answer);
+        }
         expected_of(&all[place], &answer)
     });
     counts.print();
+    spans.print();
     if let Some(first) = compared.first {
         show_call(command, &all[first]);
     }
-    compared.same
+    spans.has_met_all() && compared.same
 }
 
 fn show_call(command: &[String], case: &Case) {
@@ -172,18 +180,23 @@ fn compare_mends(count: u64, seed: u64, command: &[String]) -> bool {
     let mut dice = Dice::new(seed);
     let mut all: Vec<Mend> = mender_cases::all().into_iter().map(|row| row.mend).collect();
     all.extend((0..count).map(|_| mender_random::mend(&mut dice)));
+    let worked = all.len() - count as usize;
 
-    let mut counts = MenderCounts::default();
+    let (mut counts, mut spans) = (MenderCounts::default(), MendSpans::default());
     let compared = compare("mends", seed, command, &all, |place| {
         let outcome = all[place].outcome();
         counts.add(&all[place], &outcome);
+        if place >= worked {
+            spans.add(&all[place], &outcome);
+        }
         all[place].expected(&outcome)
     });
     counts.print();
+    spans.print();
     if let Some(first) = compared.first {
         show_mend(command, &all[first]);
     }
-    compared.same
+    spans.has_met_all() && compared.same
 }
 
 fn show_mend(command: &[String], mend: &Mend) {
@@ -205,12 +218,16 @@ fn inputs(count: u64, dice: &mut Dice) -> Vec<(Vec<u8>, Option<Shape>)> {
 
 fn compare_texts(count: u64, seed: u64, command: &[String]) -> bool {
     let all = inputs(count, &mut Dice::new(seed));
-    let mut counts = Counts::default();
+    let worked = all.len() - count as usize;
+    let (mut counts, mut spans) = (Counts::default(), PlanSpans::default());
     let mut differing = Vec::new();
     let (mut timed, mut seconds) = (0, 0.0);
     for (place, (input, shape)) in all.iter().enumerate() {
-        let answer = answer_to_input(input);
-        counts.add(case_of_input(input).as_ref(), *shape, &answer);
+        let (case, answer) = (case_of_input(input), answer_to_input(input));
+        counts.add(case.as_ref(), *shape, &answer);
+        if let (Some(case), true) = (&case, place >= worked) {
+            spans.add(case, &answer);
+        }
         let slowly = place % SLOW_EVERY == 0;
         let started = Instant::now();
         if ask::program(command, input, slowly) != printed(&answer) {
@@ -228,10 +245,11 @@ fn compare_texts(count: u64, seed: u64, command: &[String]) -> bool {
         seconds * 1_000.0 / f64::from(timed)
     );
     counts.print();
+    spans.print();
     if let Some(&first) = differing.first() {
         show_text(command, &all[first].0);
     }
-    differing.is_empty()
+    spans.has_met_all() && differing.is_empty()
 }
 
 fn show_text(command: &[String], input: &[u8]) {

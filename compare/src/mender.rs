@@ -1,5 +1,5 @@
-//! T-01 read literally: what is left of a table from the field, and the list of what was changed or lost. Each sentence
-//! of the request is one step here, or one promise that every mended table is held to.
+//! T-01 read literally, as T-03 changed it: what is left of a table from the field, and the list of what was lost. Each
+//! sentence of the requests is one step here, or one promise that every mended table is held to.
 
 use crate::ask::{filled, Call, Given, MEND};
 use crate::listing::{faults, ALLOWANCE_MAX, ARCS_MAX, METRES_MAX, NODE_MAX, REACH_MAX, REPLY_BYTES};
@@ -9,16 +9,16 @@ pub const INPUT_BYTES_MAX: usize = 4_096;
 pub const CHANGE_BYTES: usize = 16;
 const LOST: u16 = 65_535;
 
-// The reasons, as they are numbered.
+// The reasons, as they are numbered. 4 has ended with T-03: it was for spare bytes, which now hold the span.
 pub const NODE: u8 = 1;
 const ENDS: u8 = 2;
 pub const LENGTH: u8 = 3;
-const SPARE: u8 = 4;
 pub const PAST: u8 = 5;
 const TORN: u8 = 6;
 
-/// What the request calls them, from reason 1 on.
-pub const REASONS: [&str; 6] = ["node", "equal ends", "length", "spare", "past 128", "torn end"];
+/// Every reason, and what the request calls it.
+pub const REASONS: [(u8, &str); 5] =
+    [(NODE, "node"), (ENDS, "equal ends"), (LENGTH, "length"), (PAST, "past 128"), (TORN, "torn end")];
 
 /// One call of the mender: the input may be too long, and each output too short.
 #[derive(Clone)]
@@ -79,7 +79,7 @@ pub fn changes_of(list: &[u8]) -> Vec<Change> {
 /// Reads the list back: the old numbers of the mended table's arcs, by their new ones. Of the numbers that the list
 /// does not call lost, the first is that of arc 0, the next that of arc 1, and so on.
 pub fn old_numbers(list: &[u8], arcs: usize) -> Vec<u16> {
-    let lost: Vec<u16> = changes_of(list).iter().filter(|change| change.is_lost()).map(|change| change.old).collect();
+    let lost: Vec<u16> = changes_of(list).iter().map(|change| change.old).collect();
     (0..LOST).filter(|old| !lost.contains(old)).take(arcs).collect()
 }
 
@@ -109,12 +109,6 @@ fn mend_table(input: &[u8]) -> Mended {
     }
     let past = kept.split_off(kept.len().min(ARCS_MAX));
     list.extend(past.iter().map(|&(old, _)| Change::lost(old, PAST)));
-    for (new, (old, arc)) in (0..).zip(&mut kept) {
-        if arc.spare != 0 {
-            list.push(Change { old: *old, reason: SPARE, new });
-            arc.spare = 0;
-        }
-    }
     if !torn_end(input).is_empty() {
         list.push(Change::lost((input.len() / ARC_BYTES) as u16, TORN));
     }
@@ -213,36 +207,28 @@ pub fn is_clean(table: &[u8]) -> bool {
     faults(&Case { table: table.to_vec(), reply_len: REPLY_BYTES, request }).is_empty()
 }
 
-/// Whether a record says one of the six reasons, a new number only with reason 4, and nothing else.
+/// Whether a record says one of the five reasons, that the arc is lost, and nothing else.
 fn is_well_formed(record: &[u8]) -> bool {
     let change = Change::from_bytes(record);
-    (NODE..=TORN).contains(&change.reason) && change.is_lost() == (change.reason != SPARE) && is_rest_zero(record)
+    REASONS.iter().any(|reason| reason.0 == change.reason) && change.is_lost() && is_rest_zero(record)
 }
 
-/// Whether the mended table's arc `new` is the input's arc `old`: as it was where the list is silent of it; else listed
-/// with reason 4 and its new number, and as it was but for spare bytes that were not zero.
-fn is_got_back(input: &[u8], mended: &Mended, old: u16, new: usize) -> bool {
-    let record = |table: &[u8], place: usize| table[place * ARC_BYTES..(place + 1) * ARC_BYTES].to_vec();
-    let (before, after) = (record(input, usize::from(old)), record(&mended.table, new));
-    match changes_of(&mended.list).iter().find(|change| change.old == old) {
-        None => after == before,
-        Some(change) => {
-            let zeroed = [&before[..2], &[0, 0], &before[4..]].concat();
-            change.reason == SPARE && usize::from(change.new) == new && after == zeroed && after != before
-        }
-    }
+/// Whether the mended table's arc `new` is the input's arc `old`, byte for byte: its span, too.
+fn is_got_back(input: &[u8], table: &[u8], old: u16, new: usize) -> bool {
+    let from = usize::from(old) * ARC_BYTES;
+    input[from..from + ARC_BYTES] == table[new * ARC_BYTES..(new + 1) * ARC_BYTES]
 }
 
 /// Whether the old numbers that the list gives back, and those that it calls lost, are all of the input's, each once.
 fn accounts_for_all(input: &[u8], list: &[u8], given_back: &[u16]) -> bool {
     let mut old = given_back.to_vec();
-    old.extend(changes_of(list).iter().filter(|change| change.is_lost()).map(|change| change.old));
+    old.extend(changes_of(list).iter().map(|change| change.old));
     old.sort_unstable();
     old.into_iter().map(usize::from).eq(0..input.chunks(ARC_BYTES).len())
 }
 
 impl Mend {
-    /// Holds what is expected to what T-01 promises; a failure is a fault of this program, or of the request.
+    /// Holds what is expected to what T-01 and T-03 promise; a failure is a fault of this program, or of a request.
     fn hold_to_what_is_promised(&self, mended: &Mended) {
         let (input, table, list) = (&self.input[..], &mended.table[..], &mended.list[..]);
         let unchanged = Mended { table: table.to_vec(), list: Vec::new() };
@@ -253,11 +239,11 @@ impl Mend {
             ("a clean table has an empty list, and no other", is_clean(input) == list.is_empty()),
             ("mending twice gives the same table as once", mend_table(table) == unchanged),
             ("both outputs fit", table.len().max(list.len()) <= self.room()),
-            ("each record has a reason and what goes with it", list.chunks(CHANGE_BYTES).all(is_well_formed)),
+            ("each record has a reason, and its arc is lost", list.chunks(CHANGE_BYTES).all(is_well_formed)),
             ("old numbers rise", changes_of(list).windows(2).all(|two| two[0].old < two[1].old)),
             (
-                "the list gives old numbers back",
-                (0..).zip(&old).all(|(new, &old)| is_got_back(input, mended, old, new)),
+                "the list gives old numbers back, and each arc is as it was",
+                (0..).zip(&old).all(|(new, &old)| is_got_back(input, table, old, new)),
             ),
             ("every old number is given back or listed as lost", accounts_for_all(input, list, &old)),
         ];

@@ -12,19 +12,25 @@ const A: Record = [0, 1, 0, 0, 0xE8, 3, 0, 0, 1, 0, 0, 0, 0, 0, 0, 0];
 const B: Record = [31, 0, 0, 0, 0x80, 0x84, 0x1E, 0, 255, 255, 255, 255, 255, 255, 255, 255];
 const C: Record = [5, 31, 0, 0, 0, 0, 0, 0, 0, 0, 0, 0, 0, 0, 0, 128];
 
-// Arcs with one fault; the last two are C once they are mended.
+// C with a span number: in byte 2 alone, in byte 3 alone, in both.
+const SPAN_1: Record = [5, 31, 1, 0, 0, 0, 0, 0, 0, 0, 0, 0, 0, 0, 0, 128];
+const SPAN_256: Record = [5, 31, 0, 1, 0, 0, 0, 0, 0, 0, 0, 0, 0, 0, 0, 128];
+const SPAN_65535: Record = [5, 31, 255, 255, 0, 0, 0, 0, 0, 0, 0, 0, 0, 0, 0, 128];
+/// The other direction of the first of these.
+const SPAN_1_BACK: Record = [31, 5, 1, 0, 0, 0, 0, 0, 0, 0, 0, 0, 0, 0, 0, 128];
+
+// Arcs with one fault.
 const NODE: Record = [32, 1, 0, 0, 0xE8, 3, 0, 0, 1, 0, 0, 0, 0, 0, 0, 0];
 const ENDS: Record = [7, 7, 0, 0, 0xE8, 3, 0, 0, 1, 0, 0, 0, 0, 0, 0, 0];
 const LENGTH: Record = [0, 1, 0, 0, 0x81, 0x84, 0x1E, 0, 1, 0, 0, 0, 0, 0, 0, 0];
-const SPARE_2: Record = [5, 31, 1, 0, 0, 0, 0, 0, 0, 0, 0, 0, 0, 0, 0, 128];
-const SPARE_3: Record = [5, 31, 0, 1, 0, 0, 0, 0, 0, 0, 0, 0, 0, 0, 0, 128];
 
 fn lost(old: u8, reason: u8) -> Record {
     [old, 0, reason, 0, 255, 255, 0, 0, 0, 0, 0, 0, 0, 0, 0, 0]
 }
 
-fn zeroed(old: u8, new: u8) -> Record {
-    [old, 0, 4, 0, new, 0, 0, 0, 0, 0, 0, 0, 0, 0, 0, 0]
+fn with_span(mut arc: Record, span: u8) -> Record {
+    arc[2] = span;
+    arc
 }
 
 /// A call with what is said of it.
@@ -61,10 +67,31 @@ fn clean() -> Vec<WorkedMend> {
     ]
 }
 
+/// T-03: bytes 2 and 3 hold a span, whatever it is. They are no fault, and come out as they went in.
+fn with_spans() -> Vec<WorkedMend> {
+    let one = |name, arc: Record| row(name, &[&A, &arc, &B], &[(0, A), (1, arc), (2, B)], &[]);
+    // Arc k is A in span k + 1.
+    let each_its_own: Vec<(u16, Record)> = (0..128).map(|k| (k, with_span(A, k as u8 + 1))).collect();
+    let records: Vec<&[u8]> = each_its_own.iter().map(|(_, arc)| &arc[..]).collect();
+    vec![
+        one("span 1", SPAN_1),
+        one("span 256", SPAN_256),
+        one("span 65,535", SPAN_65535),
+        row("both directions of a span", &[&SPAN_1, &SPAN_1_BACK], &[(0, SPAN_1), (1, SPAN_1_BACK)], &[]),
+        row("128 arcs, each a span of its own", &records, &each_its_own, &[]),
+        // Every arc behind the lost one moves up by one, and its span with it.
+        row(
+            "spans move with their arcs",
+            &[&SPAN_256, &NODE, &SPAN_65535, &A, &SPAN_1],
+            &[(0, SPAN_256), (2, SPAN_65535), (3, A), (4, SPAN_1)],
+            &[lost(1, 1)],
+        ),
+    ]
+}
+
 /// One fault in the second of three arcs, or behind them.
 fn one_fault() -> Vec<WorkedMend> {
     let removed = |name, arc: Record, reason| row(name, &[&A, &arc, &B], &[(0, A), (2, B)], &[lost(1, reason)]);
-    let mended = |name, arc: Record| row(name, &[&A, &arc, &B], &[(0, A), (1, C), (2, B)], &[zeroed(1, 1)]);
     let torn = |name, end: &[u8]| row(name, &[&A, &B, end], &[(0, A), (1, B)], &[lost(2, 6)]);
     let [_, _, rest @ ..] = A;
     let ends = |tail, head| [&[tail, head], &rest[..]].concat().try_into().expect("16 bytes");
@@ -77,9 +104,9 @@ fn one_fault() -> Vec<WorkedMend> {
         removed("equal ends 0", ends(0, 0), 2),
         removed("2,000,001 m", LENGTH, 3),
         removed("a length of which only the highest byte is used", [0, 1, 0, 0, 0, 0, 0, 1, 1, 0, 0, 0, 0, 0, 0, 0], 3),
-        mended("spare byte 2 alone", SPARE_2),
-        mended("spare byte 3 alone", SPARE_3),
-        mended("both spare bytes", [5, 31, 255, 255, 0, 0, 0, 0, 0, 0, 0, 0, 0, 0, 0, 128]),
+        removed("tail 32, with a span", with_span(NODE, 1), 1),
+        removed("equal ends, with a span", with_span(ENDS, 1), 2),
+        removed("2,000,001 m, with a span", with_span(LENGTH, 1), 3),
         torn("a torn end of 1 byte", &C[..1]),
         torn("a torn end of 15 bytes", &C[..15]),
         torn("a torn end that begins with a bad node", &NODE[..9]),
@@ -94,15 +121,14 @@ fn several_faults() -> Vec<WorkedMend> {
     let one = |name, arc: Record, reason| row(name, &[&A, &arc], &[(0, A)], &[lost(1, reason)]);
     vec![
         one("equal ends 32", [32, 32, 0, 0, 0xE8, 3, 0, 0, 1, 0, 0, 0, 0, 0, 0, 0], 1),
-        one("every fault", [32, 32, 1, 1, 0x81, 0x84, 0x1E, 0, 1, 0, 0, 0, 0, 0, 0, 0], 1),
+        one("every fault, with a span", [32, 32, 1, 1, 0x81, 0x84, 0x1E, 0, 1, 0, 0, 0, 0, 0, 0, 0], 1),
         one("a bad node and a bad length", [0, 32, 0, 0, 0x81, 0x84, 0x1E, 0, 1, 0, 0, 0, 0, 0, 0, 0], 1),
-        one("every fault but a node's", [31, 31, 1, 1, 0x81, 0x84, 0x1E, 0, 1, 0, 0, 0, 0, 0, 0, 0], 2),
-        one("a bad length and used spare bytes", [0, 1, 1, 1, 0x81, 0x84, 0x1E, 0, 1, 0, 0, 0, 0, 0, 0, 0], 3),
+        one("every fault but a node's, with a span", [31, 31, 1, 1, 0x81, 0x84, 0x1E, 0, 1, 0, 0, 0, 0, 0, 0, 0], 2),
         row(
             "every reason but 5, with numbers that shift",
-            &[&NODE, &A, &SPARE_3, &ENDS, &LENGTH, &B, &SPARE_2, &A, &NODE, &A[..3]],
-            &[(1, A), (2, C), (5, B), (6, C), (7, A)],
-            &[lost(0, 1), zeroed(2, 1), lost(3, 2), lost(4, 3), zeroed(6, 3), lost(8, 1), lost(9, 6)],
+            &[&NODE, &A, &SPAN_256, &ENDS, &LENGTH, &B, &SPAN_1, &A, &NODE, &A[..3]],
+            &[(1, A), (2, SPAN_256), (5, B), (6, SPAN_1), (7, A)],
+            &[lost(0, 1), lost(3, 2), lost(4, 3), lost(8, 1), lost(9, 6)],
         ),
     ]
 }
@@ -119,11 +145,11 @@ fn past_128() -> Vec<WorkedMend> {
         behind("a bad node behind 128 kept", &[&NODE], &[lost(128, 1)]),
         behind("equal ends behind 128 kept", &[&ENDS], &[lost(128, 2)]),
         behind("a bad length behind 128 kept", &[&LENGTH], &[lost(128, 3)]),
-        behind("used spare bytes behind 128 kept", &[&SPARE_2], &[lost(128, 5)]),
+        behind("a span behind 128 kept", &[&SPAN_1], &[lost(128, 5)]),
         behind("a torn end behind 128 kept", &[&B[..15]], &[lost(128, 6)]),
         behind(
             "each of these behind 128 kept",
-            &[&SPARE_3, &NODE, &B, &LENGTH, &ENDS, &A, &C[..1]],
+            &[&SPAN_256, &NODE, &B, &LENGTH, &ENDS, &A, &C[..1]],
             &[lost(128, 5), lost(129, 1), lost(130, 5), lost(131, 3), lost(132, 2), lost(133, 5), lost(134, 6)],
         ),
         row("129 arcs, one with a bad node", &[&full[..48], &NODE, &full[48..]], &shifted, &[lost(3, 1)]),
@@ -134,10 +160,10 @@ fn past_128() -> Vec<WorkedMend> {
             &[lost(3, 1), lost(129, 5)],
         ),
         row(
-            "used spare bytes in the 128th arc kept, and in the next",
-            &[&NODE, &full[..127 * ARC_BYTES], &SPARE_3, &SPARE_3],
-            &(1..128).map(|old| (old, A)).chain([(128, C)]).collect::<Vec<_>>(),
-            &[lost(0, 1), zeroed(128, 127), lost(129, 5)],
+            "a span in the 128th arc kept, and in the next",
+            &[&NODE, &full[..127 * ARC_BYTES], &SPAN_256, &SPAN_65535],
+            &(1..128).map(|old| (old, A)).chain([(128, SPAN_256)]).collect::<Vec<_>>(),
+            &[lost(0, 1), lost(129, 5)],
         ),
     ]
 }
@@ -151,12 +177,7 @@ fn longest() -> Vec<WorkedMend> {
     vec![
         row("4,096 bytes without a fault", &[&A.repeat(256)], &first(A), past),
         row("4,096 bytes, equal ends in every arc", &[&ENDS.repeat(256)], &[], &all(2)),
-        row(
-            "4,096 bytes, used spare bytes in every arc",
-            &[&SPARE_3.repeat(256)],
-            &first(C),
-            &[&(0..128).map(|old| zeroed(old, old)).collect::<Vec<_>>(), past].concat(),
-        ),
+        row("4,096 bytes, a span in every arc", &[&SPAN_65535.repeat(256)], &first(SPAN_65535), past),
         row(
             "4,096 bytes, a bad length in every second arc",
             &[&[LENGTH, B].concat().repeat(128)],
@@ -168,7 +189,7 @@ fn longest() -> Vec<WorkedMend> {
 }
 
 fn sizes() -> Vec<WorkedMend> {
-    let mut roomy = row("outputs longer than they must be", &[&SPARE_2, &NODE], &[(0, C)], &[zeroed(0, 0), lost(1, 1)]);
+    let mut roomy = row("outputs longer than they must be", &[&SPAN_1, &NODE], &[(0, SPAN_1)], &[lost(1, 1)]);
     (roomy.mend.table_size, roomy.mend.list_size) = (100, 70_000);
     vec![
         roomy,
@@ -187,7 +208,10 @@ fn sizes() -> Vec<WorkedMend> {
 }
 
 pub fn all() -> Vec<WorkedMend> {
-    [clean(), one_fault(), several_faults(), past_128(), longest(), sizes()].into_iter().flatten().collect()
+    [clean(), with_spans(), one_fault(), several_faults(), past_128(), longest(), sizes()]
+        .into_iter()
+        .flatten()
+        .collect()
 }
 
 /// With the table's arcs, too.

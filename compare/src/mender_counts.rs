@@ -41,12 +41,15 @@ struct Behind {
     over: usize,
     over_with_faults: usize,
     listed: [usize; REASONS.len()],
-    /// Arcs past 128 that have their spare bytes used.
-    spare: usize,
+}
+
+/// The place of a record's reason among those that there are.
+fn reason(change: &Change) -> usize {
+    REASONS.iter().position(|reason| reason.0 == change.reason).expect("a reason that is given")
 }
 
 impl Behind {
-    fn add(&mut self, arcs: &[Arc], changes: &[Change], last_kept: u16) {
+    fn add(&mut self, changes: &[Change], last_kept: u16) {
         let behind: Vec<&Change> = changes.iter().filter(|change| change.old > last_kept).collect();
         let over = behind.iter().any(|change| change.reason == PAST);
         let faulty = behind.iter().any(|change| (NODE..=LENGTH).contains(&change.reason));
@@ -54,8 +57,7 @@ impl Behind {
         self.over += usize::from(over);
         self.over_with_faults += usize::from(over && faulty);
         for change in behind {
-            self.listed[usize::from(change.reason) - 1] += 1;
-            self.spare += usize::from(change.reason == PAST && arcs[usize::from(change.old)].spare != 0);
+            self.listed[reason(change)] += 1;
         }
     }
 }
@@ -87,20 +89,14 @@ impl Outputs {
 struct Limits {
     nodes: [usize; 2],
     metres: [usize; 2],
-    /// Spare byte 2 alone, byte 3 alone, both.
-    spare: [usize; 3],
 }
 
 impl Limits {
     fn add(&mut self, arc: &Arc) {
-        let [low, high] = arc.spare.to_le_bytes().map(|byte| byte != 0);
         for past in 0..2 {
             let node = NODE_MAX + past as u32;
             self.nodes[past] += usize::from(u32::from(arc.tail) == node || u32::from(arc.head) == node);
             self.metres[past] += usize::from(arc.metres == METRES_MAX + past as u32);
-        }
-        for (count, fits) in self.spare.iter_mut().zip([low && !high, high && !low, low && high]) {
-            *count += usize::from(fits);
         }
     }
 }
@@ -128,14 +124,14 @@ impl MenderCounts {
         self.none_left += usize::from(old.is_empty() && !arcs.is_empty());
         self.add_torn(input);
         for change in &changes {
-            self.listed[usize::from(change.reason) - 1] += 1;
+            self.listed[reason(change)] += 1;
         }
         for arc in &arcs {
             self.several_faults += usize::from(arc_checks(arc).iter().filter(|check| check.1).count() > 1);
             self.limits.add(arc);
         }
         if old.len() == ARCS_MAX {
-            self.behind.add(&arcs, &changes, old[ARCS_MAX - 1]);
+            self.behind.add(&changes, old[ARCS_MAX - 1]);
         }
         for (new, &old) in old.iter().enumerate() {
             let shift = usize::from(old) - new;
@@ -166,13 +162,13 @@ impl MenderCounts {
         let [torn, by_one, by_fifteen, alone] = self.torn;
         println!("  inputs of so many bytes: {lengths}");
         println!("  torn ends {torn}, of 1 byte {by_one}, of 15 {by_fifteen}, with no arc before them {alone}");
-        let listed = named(&REASONS, &self.listed);
+        let listed = named(&REASONS.map(|reason| reason.1), &self.listed);
         println!("  listed: {listed}; arcs with several faults {}", self.several_faults);
-        let Behind { full_tables, over, over_with_faults, listed, spare } = &self.behind;
+        let Behind { full_tables, over, over_with_faults, listed } = &self.behind;
         println!(
             "  128 arcs kept {full_tables}, over 128 to keep {over}, with faulty arcs behind them {over_with_faults}"
         );
-        println!("  listed behind 128 kept: {}; of those past, spare bytes used {spare}", named(&REASONS, listed));
+        println!("  listed behind 128 kept: {}", named(&REASONS.map(|reason| reason.1), listed));
         let [input, table, list] = self.most;
         println!(
             "  arcs kept {}, their number shifted {}, by at most {}; at most {input} bytes in, {table} of a table and \
@@ -185,10 +181,10 @@ impl MenderCounts {
              over 65535 bytes {huge}",
             short[0], short[1], longer[0], longer[1]
         );
-        let Limits { nodes, metres, spare } = &self.limits;
+        let Limits { nodes, metres } = &self.limits;
         println!(
-            "  arcs with node 31 {}, 32 {}; of 2000000 m {}, 2000001 m {}; spare byte 2 alone {}, 3 alone {}, both {}",
-            nodes[0], nodes[1], metres[0], metres[1], spare[0], spare[1], spare[2]
+            "  arcs with node 31 {}, 32 {}; of 2000000 m {}, 2000001 m {}",
+            nodes[0], nodes[1], metres[0], metres[1]
         );
     }
 }

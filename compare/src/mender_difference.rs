@@ -1,9 +1,9 @@
 //! A table that is mended otherwise than expected, made small and put on paper.
 
 use crate::ask::{filled, Given};
-use crate::difference::{first_written, smaller_tables};
+use crate::difference::{first_written, smaller_tables, with_less_on_arcs};
 use crate::mender::{is_rest_zero, numbers_of, old_numbers, Change, Mend, Mended, CHANGE_BYTES, REASONS};
-use crate::mesh::{arcs_of, table_bytes, torn_end, Arc, ARC_BYTES};
+use crate::mesh::{torn_end, Arc, ARC_BYTES};
 
 // ---- Smaller cases ----
 
@@ -14,25 +14,16 @@ fn on_input(mend: &Mend, input: Vec<u8>) -> Mend {
     Mend { table_size: size(mend.table_size), list_size: size(mend.list_size), ..fitting }
 }
 
-/// The input with all risks taken off its arcs, where any has one.
-fn without_risks(input: &[u8]) -> Option<Vec<u8>> {
-    let mut arcs = arcs_of(input);
-    if arcs.iter().all(|arc| arc.risks == 0) {
-        return None;
-    }
-    arcs.iter_mut().for_each(|arc| arc.risks = 0);
-    Some([&table_bytes(&arcs), torn_end(input)].concat())
-}
-
-/// What to try in place of a call: without many arcs, without one, without a torn end, without risks, with outputs that
-/// just fit.
+/// What to try in place of a call: without many arcs, without one, without a torn end, without risks, without spans,
+/// with outputs that just fit.
 pub fn smaller_mends(mend: &Mend) -> Vec<Mend> {
     let mut inputs = smaller_tables(&mend.input);
     let torn = torn_end(&mend.input).len();
     if torn > 0 {
         inputs.push(mend.input[..mend.input.len() - torn].to_vec());
     }
-    inputs.extend(without_risks(&mend.input));
+    inputs.extend(with_less_on_arcs(&mend.input, |arc| arc.risks = 0));
+    inputs.extend(with_less_on_arcs(&mend.input, |arc| arc.span = 0));
     let mut mends: Vec<Mend> = inputs.into_iter().map(|input| on_input(mend, input)).collect();
     if mend.table_size > mend.room() {
         mends.push(Mend { table_size: mend.room(), ..mend.clone() });
@@ -52,7 +43,8 @@ fn arc_on_paper(record: &[u8]) -> String {
 fn change_on_paper(record: &[u8]) -> String {
     let change = Change::from_bytes(record);
     let new = if change.is_lost() { "lost".to_string() } else { format!("now {}", change.new) };
-    let reason = REASONS.get(usize::from(change.reason).wrapping_sub(1)).unwrap_or(&"none that there is");
+    let reason =
+        REASONS.iter().find(|reason| reason.0 == change.reason).map_or("none that is given", |reason| reason.1);
     let rest = if is_rest_zero(record) { "" } else { "  (with used bytes that are to be zero)" };
     format!("arc {} {new}, {} ({reason}){rest}", change.old, change.reason)
 }

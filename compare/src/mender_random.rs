@@ -4,7 +4,7 @@
 use crate::listing::{ARCS_MAX, METRES_MAX};
 use crate::mender::{Mend, INPUT_BYTES_MAX};
 use crate::mesh::{table_bytes, Arc, ARC_BYTES};
-use crate::random::{spoil, two_nodes, Dice};
+use crate::random::{number_spans, spoil, two_nodes, Dice, SPANS_PERCENT};
 
 /// The arcs of the longest input that is mended.
 const INPUT_ARCS_MAX: usize = INPUT_BYTES_MAX / ARC_BYTES;
@@ -18,7 +18,7 @@ fn sound_arc(dice: &mut Dice) -> Arc {
     let metres = dice.pick(&[0, 1, METRES_MAX - 1, METRES_MAX, metres, metres, metres]);
     let (few, many) = (1 << dice.below(64) | 1 << dice.below(64), dice.roll());
     let risks = dice.pick(&[0, few, few, few, many, u64::MAX]);
-    Arc { tail, head, spare: 0, metres, risks }
+    Arc { tail, head, span: 0, metres, risks }
 }
 
 /// Mostly one fault, now and then several.
@@ -34,6 +34,14 @@ fn faulty_arc(dice: &mut Dice) -> Arc {
 /// So many arcs, of which so many in a hundred have a fault.
 fn arcs(dice: &mut Dice, count: usize, faulty_percent: usize) -> Vec<Arc> {
     (0..count).map(|_| if dice.percent(faulty_percent) { faulty_arc(dice) } else { sound_arc(dice) }).collect()
+}
+
+/// Half of the tables have spans that are known.
+fn spanned(dice: &mut Dice, mut table: Vec<Arc>) -> Vec<Arc> {
+    if dice.percent(SPANS_PERCENT) {
+        number_spans(dice, &mut table);
+    }
+    table
 }
 
 // ---- Inputs ----
@@ -86,7 +94,8 @@ fn noise(dice: &mut Dice) -> Vec<u8> {
 /// Exactly so many bytes of a table.
 fn cut(dice: &mut Dice, bytes: usize) -> Vec<u8> {
     let percent = some_percent(dice);
-    let mut table = table_bytes(&arcs(dice, bytes / ARC_BYTES + 1, percent));
+    let arcs = arcs(dice, bytes / ARC_BYTES + 1, percent);
+    let mut table = table_bytes(&spanned(dice, arcs));
     table.truncate(bytes);
     table
 }
@@ -100,12 +109,13 @@ fn tear(dice: &mut Dice, table: &mut Vec<u8>) {
 
 fn whole_table(dice: &mut Dice) -> Vec<Arc> {
     let percent = some_percent(dice);
-    match dice.below(16) {
+    let table = match dice.below(16) {
         0..=2 => short_table(dice, 0),
         3..=6 => short_table(dice, percent),
         7..=12 => crowded_table(dice),
         _ => table_at_the_limit(dice),
-    }
+    };
+    spanned(dice, table)
 }
 
 fn input(dice: &mut Dice) -> Vec<u8> {

@@ -9,7 +9,8 @@ const ARCS_SHOWN: usize = 257;
 pub struct Arc {
     pub tail: u8,
     pub head: u8,
-    pub spare: u16,
+    /// The span that it is one direction of (T-03); zero where that is not known.
+    pub span: u16,
     pub metres: u32,
     pub risks: u64,
 }
@@ -35,7 +36,7 @@ impl Arc {
         Arc {
             tail: record[0],
             head: record[1],
-            spare: u16::from_le_bytes([record[2], record[3]]),
+            span: u16::from_le_bytes([record[2], record[3]]),
             metres: number(&record[4..8]) as u32,
             risks: number(&record[8..16]),
         }
@@ -43,16 +44,16 @@ impl Arc {
 
     pub fn to_bytes(self) -> Vec<u8> {
         let mut record = vec![self.tail, self.head];
-        record.extend(self.spare.to_le_bytes());
+        record.extend(self.span.to_le_bytes());
         record.extend(self.metres.to_le_bytes());
         record.extend(self.risks.to_le_bytes());
         record
     }
 
-    /// As 01 writes it: `0,1,1000,{0}`. Spare bytes that are not zero are named behind it.
+    /// As 01 writes it, with the span behind it where that is known: `0,1,1000,{0} span 7`.
     pub fn on_paper(&self) -> String {
-        let spare = if self.spare == 0 { String::new() } else { format!("  (spare bytes hold {})", self.spare) };
-        format!("{},{},{},{}{}", self.tail, self.head, self.metres, risks_on_paper(self.risks), spare)
+        let span = if self.span == 0 { String::new() } else { format!(" span {}", self.span) };
+        format!("{},{},{},{}{}", self.tail, self.head, self.metres, risks_on_paper(self.risks), span)
     }
 }
 
@@ -103,7 +104,8 @@ pub fn arcs_on_paper(arcs: &[u8]) -> String {
     format!("[{}]", names.join(","))
 }
 
-/// Reads the arcs of a mesh as 01 prints it, `0: 0,1,1000,{0}; 1: 1,3,4000,{1}`; for the fixed cases, which are right.
+/// Reads the arcs of a mesh as 01 prints it, with a span behind each where it is known,
+/// `0: 0,1,1000,{0}; 1: 1,3,4000,{1} span 7`; for the fixed cases, which are right.
 pub fn from_paper(text: &str) -> Vec<Arc> {
     let plain = |word: &str| word.trim().parse::<u64>().expect("a number");
     let mut arcs = Vec::new();
@@ -112,9 +114,10 @@ pub fn from_paper(text: &str) -> Vec<Arc> {
         assert_eq!(plain(name), place as u64, "arcs stand in order");
         let (ends, risks) = fields.split_once('{').expect("a risk set");
         let ends: Vec<u64> = ends.trim().trim_end_matches(',').split(',').map(plain).collect();
-        let risks = risks.trim().trim_end_matches('}');
+        let (risks, span) = risks.split_once('}').expect("the end of the risk set");
         let risks = if risks.is_empty() { 0 } else { risks.split(',').map(|r| 1u64 << plain(r)).sum() };
-        arcs.push(Arc { tail: ends[0] as u8, head: ends[1] as u8, spare: 0, metres: ends[2] as u32, risks });
+        let span = span.trim().strip_prefix("span").map_or(0, plain);
+        arcs.push(Arc { tail: ends[0] as u8, head: ends[1] as u8, span: span as u16, metres: ends[2] as u32, risks });
     }
     arcs
 }

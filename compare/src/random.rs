@@ -1,12 +1,15 @@
 //! Random meshes and requests from a fixed seed, small enough to list, with what goes wrong in this trade; and damage
 //! done to them, often in several places at once.
 
-use crate::listing::{ranking_within, Plan, Route, ALLOWANCE_MAX, ARCS_MAX, METRES_MAX, REACH_MAX, REPLY_BYTES};
+use crate::listing::{ranking_within, risks_and_spans, Plan, Route};
+use crate::listing::{ALLOWANCE_MAX, ARCS_MAX, METRES_MAX, REACH_MAX, REPLY_BYTES};
 use crate::mesh::{arcs_of, table_bytes, torn_end, Arc, Case, Request, ARC_BYTES};
 use crate::trade::{Shape, SHAPES};
 
 /// So many meshes in a hundred have one of the trade's shapes.
 const TRADE_PERCENT: usize = 25;
+/// So many meshes in a hundred have spans that are known; in the others all are zero.
+pub const SPANS_PERCENT: usize = 50;
 /// A mesh with more routes than this, or more arcs to look at in listing them, loses an arc.
 const FEW: Listable = Listable { routes: 300, patience: 5_000 };
 /// The same for some meshes, since every pair of so many takes its time.
@@ -139,6 +142,19 @@ fn long(dice: &mut Dice) -> Ends {
     ends
 }
 
+/// A long chain with many cables on one hop, or on two: tables with over 64 arcs on routes that can still be listed.
+fn bundled(dice: &mut Dice) -> Ends {
+    let nodes = chain(dice.between(6, 30));
+    let mut ends: Ends = nodes.windows(2).map(|hop| (hop[0], hop[1])).collect();
+    let (bundles, most) = dice.pick(&[(1, ARCS_MAX - ends.len()), (1, ARCS_MAX - ends.len()), (2, 11)]);
+    for _ in 0..bundles {
+        let hop = ends[dice.below(nodes.len() - 1)];
+        let more = dice.between(most / 2, most);
+        ends.extend(vec![hop; more]);
+    }
+    ends
+}
+
 /// Few arcs that matter among many that mostly do not: tables as full as can be, with high arc numbers.
 fn crowded(dice: &mut Dice) -> Ends {
     let mut ends = if dice.percent(50) { scattered(dice) } else { spans(dice) };
@@ -202,6 +218,63 @@ fn pair_directions(arcs: &mut [Arc]) {
     }
 }
 
+// ---- Spans ----
+
+/// Different span numbers, 1 and 65,535 often among the first. Their order wraps behind 65,535, and no step has a
+/// divisor in common with that, so none comes twice. Numbers 1 or 256 apart mostly differ in one byte only, and those
+/// 32,768 apart in the highest bit.
+fn span_numbers(dice: &mut Dice, count: usize) -> Vec<u16> {
+    let all = usize::from(u16::MAX);
+    let anywhere = dice.below(all);
+    let first = dice.pick(&[0, all - 1, anywhere]);
+    let step = dice.pick(&[1, all - 1, 256, 32_768, 4_099]);
+    (0..count).map(|place| 1 + ((first + place * step) % all) as u16).collect()
+}
+
+fn are_opposite(one: &Arc, other: &Arc) -> bool {
+    one.tail == other.head && one.head == other.tail
+}
+
+/// The place of the first arc between the same two nodes, whichever way it leads.
+fn first_between(arcs: &[Arc], arc: &Arc) -> usize {
+    let is_between = |other: &Arc| are_opposite(other, arc) || (other.tail, other.head) == (arc.tail, arc.head);
+    arcs.iter().position(is_between).expect("the arc itself")
+}
+
+/// The place of the first direction of a span, where its two arcs stand one after the other.
+fn first_direction(arcs: &[Arc], place: usize) -> usize {
+    let is_second = place % 2 == 1 && are_opposite(&arcs[place - 1], &arcs[place]);
+    place - usize::from(is_second)
+}
+
+/// Numbers the spans: one for each two nodes; one for each two directions, where cables side by side are as many spans;
+/// few in all, so that arcs far from each other are one span, and a route crosses it twice; one for each arc; or that
+/// with some arcs in the span of another. Some may then be unknown.
+pub fn number_spans(dice: &mut Dice, arcs: &mut [Arc]) {
+    const MOST_FEW: usize = 8;
+    let numbers = span_numbers(dice, arcs.len() + MOST_FEW);
+    let kind = dice.below(5);
+    let few = dice.between(1, MOST_FEW);
+    let unknown_percent = dice.pick(&[0, 0, 10, 50]);
+    for place in 0..arcs.len() {
+        let number = match kind {
+            0 => first_between(arcs, &arcs[place]),
+            1 => first_direction(arcs, place),
+            2 => dice.below(few),
+            3 if dice.percent(30) => dice.below(arcs.len()),
+            _ => place,
+        };
+        arcs[place].span = numbers[number];
+    }
+    for arc in arcs {
+        if dice.percent(unknown_percent) {
+            arc.span = 0;
+        }
+    }
+}
+
+// ---- Where it can be listed ----
+
 /// Spreads the mesh over the 32 node numbers; returns those of source and terminal.
 fn rename_nodes(dice: &mut Dice, arcs: &mut [Arc]) -> (u32, u32) {
     let mut names: Vec<u8> = (0..32).collect();
@@ -227,12 +300,13 @@ fn make_listable(dice: &mut Dice, arcs: &mut Vec<Arc>, request: &Request) -> Vec
 // ---- A sound case ----
 
 fn any_ends(dice: &mut Dice) -> Ends {
-    match dice.below(16) {
+    match dice.below(18) {
         0..=4 => scattered(dice),
         5..=8 => spans(dice),
         9..=10 => full(dice),
         11..=12 => parallel(dice),
         13 => long(dice),
+        14..=15 => bundled(dice),
         _ => crowded(dice),
     }
 }
@@ -243,7 +317,7 @@ fn mesh(dice: &mut Dice, shape: Option<Shape>) -> (Vec<Arc>, u32, u32) {
         Some(shape) => shape.ends(dice),
     };
     let mut arcs: Vec<Arc> =
-        ends.iter().map(|&(tail, head)| Arc { tail, head, spare: 0, metres: 0, risks: 0 }).collect();
+        ends.iter().map(|&(tail, head)| Arc { tail, head, span: 0, metres: 0, risks: 0 }).collect();
     arcs.truncate(ARCS_MAX);
     lengths(dice, &mut arcs);
     match shape {
@@ -256,6 +330,15 @@ fn mesh(dice: &mut Dice, shape: Option<Shape>) -> (Vec<Arc>, u32, u32) {
     if let Some(shape) = shape {
         // The two directions of a span need not lie in the same ducts.
         shape.lay_ducts(dice, &mut arcs);
+    }
+    if dice.percent(SPANS_PERCENT) {
+        number_spans(dice, &mut arcs);
+        match shape {
+            // D2's kind: no risk is listed, and only spans tell what is shared.
+            None if dice.percent(30) => arcs.iter_mut().for_each(|arc| arc.risks = 0),
+            None => (),
+            Some(shape) => shape.lay_spans(&mut arcs),
+        }
     }
     if dice.percent(50) {
         dice.shuffle(&mut arcs);
@@ -320,7 +403,7 @@ fn sound(dice: &mut Dice, shape: Option<Shape>) -> Case {
         request.reach = reach(dice, &ranking);
         ranking.retain(|route| route.metres <= request.reach);
         let n = ranking.len();
-        let settled_at = if n == 0 { 1 } else { Plan::new(ranking).settled_at };
+        let settled_at = if n == 0 { 1 } else { Plan::new(ranking, risks_and_spans).settled_at };
         // No route, or a pair settled by the first main, says little; most of these are passed over.
         if settled_at == 1 && dice.percent(70) {
             continue;
@@ -334,11 +417,10 @@ fn sound(dice: &mut Dice, shape: Option<Shape>) -> Case {
 
 /// Gives an arc one of the faults that it can have; it may have others.
 pub fn spoil(dice: &mut Dice, arc: &mut Arc) {
-    match dice.below(5) {
+    match dice.below(4) {
         0 => arc.tail = dice.pick(&[32, 33, 64, 255]),
         1 => arc.head = dice.pick(&[32, 33, 64, 255]),
         2 => arc.head = arc.tail,
-        3 => arc.spare = dice.pick(&[1, 128, 256, 32_768, 65_535]),
         _ => arc.metres = dice.pick(&[METRES_MAX + 1, 1 << 24, 1 << 31, u32::MAX]),
     }
 }

@@ -1,5 +1,6 @@
 //! Small meshes in the shapes of this trade, on which risks crowd: the ways into a building lie in a few ducts, those
-//! over a river too, and cables side by side. Any two routes then share some risk, and mostly none lies on all.
+//! over a river too, and cables side by side. Any two routes then share some risk, and mostly none lies on all. In two
+//! of the shapes, where spans are known, it is a span that they share.
 
 use crate::mesh::Arc;
 use crate::random::{chain, two_nodes, Dice, Ends};
@@ -14,10 +15,12 @@ pub enum Shape {
     Ring,
     Cables,
     SeveralRisks,
+    Bridge,
+    Lanes,
 }
 
 /// Every shape, in the order in which it is counted, and its name there.
-pub const SHAPES: [(Shape, &str); 8] = [
+pub const SHAPES: [(Shape, &str); 10] = [
     (Shape::DuctsIntoTerminal, "ducts into the terminal"),
     (Shape::DuctsIntoNeighbours, "into its neighbours"),
     (Shape::DuctsAtBothEnds, "at both ends"),
@@ -26,12 +29,19 @@ pub const SHAPES: [(Shape, &str); 8] = [
     (Shape::Ring, "a ring"),
     (Shape::Cables, "cables"),
     (Shape::SeveralRisks, "several risks an arc"),
+    (Shape::Bridge, "a bridge"),
+    (Shape::Lanes, "lanes"),
 ];
 
 const SOURCE: u8 = 0;
 const TERMINAL: u8 = 1;
-/// The last node before the terminal where a ring has one.
+/// The last node before the terminal where a ring has one, and the last before lanes.
 const GATE: u8 = 31;
+/// The two ends of a bridge.
+const LEFT: u8 = 2;
+const RIGHT: u8 = 3;
+/// The middles of the lanes.
+const LANES: [u8; 3] = [28, 29, 30];
 /// The risk of the last duct, and of the last one of a second place; risks beside ducts are lower.
 const LAST_DUCT: usize = 63;
 const LAST_DUCT_ELSEWHERE: usize = 59;
@@ -86,6 +96,26 @@ fn cables(dice: &mut Dice) -> Ends {
     chain(hops - 1).windows(2).flat_map(|hop| vec![(hop[0], hop[1]); cables]).collect()
 }
 
+/// From the source to both ends of a bridge, over it both ways, and from both ends to the terminal; now and then with a
+/// second cable.
+fn bridge(dice: &mut Dice) -> Ends {
+    let mut ends = Ends::new();
+    for hop in [(SOURCE, LEFT), (SOURCE, RIGHT), (LEFT, RIGHT), (RIGHT, LEFT), (LEFT, TERMINAL), (RIGHT, TERMINAL)] {
+        let cables = dice.pick(&[1, 1, 2]);
+        ends.extend(vec![hop; cables]);
+    }
+    ends
+}
+
+/// Land with a gate in the terminal's place, and from there three lanes to the terminal, of two arcs each.
+fn lanes(dice: &mut Dice) -> Ends {
+    let gated = |node| if node == TERMINAL { GATE } else { node };
+    let mut ends: Ends = land(dice, 1).into_iter().map(|(tail, head)| (gated(tail), gated(head))).collect();
+    ends.extend(LANES.map(|middle| (GATE, middle)));
+    ends.extend(LANES.map(|middle| (middle, TERMINAL)));
+    ends
+}
+
 // ---- Risks ----
 
 /// The river is counted from that behind the first strip.
@@ -102,6 +132,25 @@ fn lay(arcs: &mut [Arc], ducts: usize, last: usize, chosen: impl Fn(&Arc) -> boo
     }
 }
 
+/// Two ducts for one way in and the other way out, and two for the rest: who does not cross the bridge lies in all.
+fn lay_both_sides(arcs: &mut [Arc]) {
+    for arc in arcs {
+        match (arc.tail, arc.head) {
+            (SOURCE, LEFT) | (RIGHT, TERMINAL) => arc.risks |= 0b11 << (LAST_DUCT - 1),
+            (SOURCE, RIGHT) | (LEFT, TERMINAL) => arc.risks |= 0b11 << (LAST_DUCT_ELSEWHERE - 1),
+            _ => (),
+        }
+    }
+}
+
+// ---- Spans ----
+
+/// Makes the chosen arcs one span, by the number that the first of them has.
+fn lay_span(arcs: &mut [Arc], chosen: impl Fn(&Arc) -> bool) {
+    let number = arcs.iter().find(|arc| chosen(arc)).map_or(0, |arc| arc.span);
+    arcs.iter_mut().filter(|arc| chosen(arc)).for_each(|arc| arc.span = number);
+}
+
 impl Shape {
     pub fn ends(self, dice: &mut Dice) -> Ends {
         match self {
@@ -116,6 +165,8 @@ impl Shape {
             Shape::TwoRivers => land(dice, 3),
             Shape::Ring => ring(dice),
             Shape::Cables => cables(dice),
+            Shape::Bridge => bridge(dice),
+            Shape::Lanes => lanes(dice),
         }
     }
 
@@ -151,7 +202,24 @@ impl Shape {
                 lay(arcs, ducts, LAST_DUCT_ELSEWHERE, |arc| crosses(arc, 1, 3));
             }
             Shape::Ring => lay(arcs, 3, LAST_DUCT, |arc| arc.head == GATE),
-            Shape::Cables | Shape::SeveralRisks => (),
+            Shape::Bridge => lay_both_sides(arcs),
+            Shape::Cables | Shape::SeveralRisks | Shape::Lanes => (),
+        }
+    }
+
+    /// The spans that make the shape, where spans are known; the others are numbered already.
+    pub fn lay_spans(self, arcs: &mut [Arc]) {
+        match self {
+            // The bridge is one span, whichever way it is crossed.
+            Shape::Bridge => lay_span(arcs, |arc| [(LEFT, RIGHT), (RIGHT, LEFT)].contains(&(arc.tail, arc.head))),
+            // Each lane lies in two of three spans, so any two lanes have one in common, and none is in all.
+            Shape::Lanes => {
+                for place in 0..LANES.len() {
+                    let ends = [(GATE, LANES[place]), (LANES[(place + 1) % LANES.len()], TERMINAL)];
+                    lay_span(arcs, |arc| ends.contains(&(arc.tail, arc.head)));
+                }
+            }
+            _ => (),
         }
     }
 }

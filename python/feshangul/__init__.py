@@ -1,4 +1,4 @@
-"""Feshangul: pairs of fibre routes that share as few risks as possible, planned by a proved library.
+"""Feshangul: pairs of fibre routes that share as few risks and spans as possible, planned by a proved library.
 
     import feshangul
 
@@ -11,14 +11,14 @@
 arcs, and returns a Mended, or a MendRefusal; `mend_table` does so for a table in bytes. The standard library alone is needed.
 """
 
-__version__ = "0.4.0"
+__version__ = "0.5.0"
 
 from pathlib import Path
 
 from .answer import Pair, Refusal, Route, plan
 from .fault import Fault, InputFault, LibraryFault, clean
 from .mending import Change, Mended, MendRefusal, mend, mend_table
-from .mesh import Arc, Mesh, Request, Risk, Site
+from .mesh import Arc, Mesh, Request, Risk, Site, Trench
 from .text import read as parse_mesh
 from .text import write as write_mesh
 
@@ -37,6 +37,7 @@ __all__ = [
     "Risk",
     "Route",
     "Site",
+    "Trench",
     "mend",
     "mend_table",
     "parse_mesh",

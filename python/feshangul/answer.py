@@ -14,12 +14,14 @@ VERDICTS = {rules.SETTLED: "settled", rules.STOPPED: "stopped"}
 
 @dataclass(frozen=True)
 class Route:
-    """A route by its arc numbers, with its nodes from source to terminal, its metres and its risks."""
+    """A route by its arc numbers, with its nodes from source to terminal, its metres, its risks and those of its spans that
+    are known."""
 
     arcs: tuple[int, ...]
     nodes: tuple[int, ...]
     metres: int
     risks: frozenset[int]
+    spans: frozenset[int]
 
     @property
     def kilometres(self):
@@ -28,7 +30,7 @@ class Route:
 
 @dataclass(frozen=True)
 class Pair:
-    """An answer: the number returned (0 settled, 1 stopped) and what the reply says."""
+    """An answer: the number returned (0 settled, 1 stopped) and what the reply says. `shared` counts risks and spans."""
 
     mesh: Mesh
     request: Request
@@ -37,6 +39,7 @@ class Pair:
     floor: int
     ranked: int
     shared_risks: frozenset[int]
+    shared_spans: frozenset[int]
     main: Route
     standby: Route
 
@@ -55,13 +58,19 @@ class Pair:
 
     @property
     def common_spans(self):
-        """One arc of the main for each span that both routes pass, in the main's order. Spans are known where the mesh
-        was written by name; else only the very same arc is known to lie in the same span."""
-        crossed = {self._span(arc) for arc in self.standby.arcs}
-        return [arc for arc in self.main.arcs if self._span(arc) in crossed]
+        """The spans that both routes cross, each once, in the main's order."""
+        crossed = dict.fromkeys(self.mesh.arcs[arc].span for arc in self.main.arcs)
+        return [span for span in crossed if span in self.shared_spans]
 
-    def _span(self, arc):
-        return self.mesh.arcs[arc].span if self.mesh.named else arc
+    @property
+    def uncounted_arcs(self):
+        """The arcs on both routes whose span is not known, in the main's order: a common span each, that `shared` leaves out."""
+        return [arc for arc in self.main.arcs if arc in self.standby.arcs and not self.mesh.arcs[arc].span]
+
+    @property
+    def spans_known(self):
+        """Whether both routes have a known span on every arc, so that no common one can be missing."""
+        return all(self.mesh.arcs[arc].span for arc in self.main.arcs + self.standby.arcs)
 
 
 @dataclass(frozen=True)
@@ -115,12 +124,14 @@ def _pair(mesh, request, number, reply):
     noticed and no sheet is made of it."""
     main = _route(mesh, request, reply.main, reply.main_metres)
     standby = _route(mesh, request, reply.standby, reply.standby_metres)
-    common = main.risks & standby.risks
+    risks, spans = main.risks & standby.risks, main.spans & standby.spans
+    common = len(risks) + len(spans)
     hold_reply(reply.verdict == number, f"verdict {reply.verdict} beside number {number}")
-    hold_reply(reply.shared_risks == common and reply.shared == len(common), f"{reply.shared} shared where {len(common)} are")
+    hold_reply(reply.shared_risks == risks and reply.shared == common, f"{reply.shared} shared where {common} are")
+    hold_reply(reply.shared_spans == len(spans), f"{reply.shared_spans} spans shared where {len(spans)} are")
     hold_reply(reply.floor <= reply.shared, f"a floor of {reply.floor} over {reply.shared} shared")
     hold_reply(1 <= reply.ranked <= request.allowance, f"{reply.ranked} ranked")
-    return Pair(mesh, request, number, reply.shared, reply.floor, reply.ranked, common, main, standby)
+    return Pair(mesh, request, number, common, reply.floor, reply.ranked, risks, spans, main, standby)
 
 
 def _route(mesh, request, numbers, metres):
@@ -131,4 +142,5 @@ def _route(mesh, request, numbers, metres):
     arcs = [mesh.arcs[number] for number in numbers]
     hold_reply(nodes[-1] == request.terminal, f"a route to node {nodes[-1]}")
     hold_reply(sum(a.metres for a in arcs) == metres <= request.reach, f"a route of {metres} m")
-    return Route(tuple(numbers), tuple(nodes), metres, frozenset().union(*(a.risks for a in arcs)))
+    risks, spans = frozenset().union(*(a.risks for a in arcs)), frozenset(a.span for a in arcs) - {0}
+    return Route(tuple(numbers), tuple(nodes), metres, risks, spans)

@@ -16,8 +16,8 @@ from .line import Line
 from .mesh import Request
 
 STATUSES = "exit status: 0 settled, 1 stopped, 2 usage or input, 3 refused; the highest where a mesh has several requests"
-MEND_STATUSES = "exit status: 0 nothing to mend, 1 something was changed or lost, 2 usage or input, 3 refused by number"
-CHANGED = 1
+MEND_STATUSES = "exit status: 0 nothing to mend, 1 something is lost, 2 usage or input, 3 refused by number"
+LOST = 1
 REFUSED = 3
 INPUT_MOST = 1 << 20  # bytes; no mesh that can be planned comes near
 LONGEST_MESSAGE = 200  # characters of a foreign text in one
@@ -181,7 +181,7 @@ def _mend(options):
 def _mend_status(found):
     if not isinstance(found, mending.Mended):
         return REFUSED
-    return CHANGED if found.changes else 0
+    return LOST if found.changes else 0
 
 
 def _mended_json(found, as_bytes):
@@ -260,7 +260,7 @@ class _Parser(argparse.ArgumentParser):
 
 
 def _parser():
-    parser = _Parser(prog="feshangul", description="Plans pairs of fibre routes that share as few risks as possible.")
+    parser = _Parser(prog="feshangul", description="Plans pairs of fibre routes that share as few risks and spans as possible.")
     parser.add_argument("--version", action="version", version=f"feshangul {__version__}")
     commands = parser.add_subparsers(metavar="COMMAND", required=True)
 
@@ -272,14 +272,14 @@ def _parser():
     )
     _add_request(plan)
     plan.add_argument("--json", action="store_true", help="print one JSON object a request, each on a line of its own")
-    plan.add_argument("--why", action="store_true", help="tell the least reach at which fewer risks would be shared")
+    plan.add_argument("--why", action="store_true", help="tell the least reach at which fewer would be shared")
     plan.set_defaults(run=_plan)
 
     mend = commands.add_parser(
         "mend",
         help="take out of a mesh the arcs that the planner refuses",
         epilog=MEND_STATUSES,
-        description="Prints what the planner takes of a mesh, headed by comments that say what was changed or lost, by line.",
+        description="Prints what the planner takes of a mesh, headed by comments that say what is lost, by line.",
     )
     mend.add_argument("mesh", metavar="MESH", help="a mesh, docs/MESHES.md; - for standard input")
     mend.add_argument("--bytes", action="store_true", help="MESH is the bytes of a table of arcs, and so is what is printed")
@@ -300,7 +300,7 @@ def _parser():
         description="Writes the mesh whose records are read, by number or with the names of another mesh.",
     )
     to_text.add_argument("bytes", metavar="BYTES", nargs="?", default="-", help="a file, or - for standard input")
-    to_text.add_argument("--names", metavar="MESH", help="write by name, with the sites and risks of this mesh")
+    to_text.add_argument("--names", metavar="MESH", help="write by name, with the sites, risks and trenches of this mesh")
     to_text.set_defaults(run=_text)
     return parser
 

@@ -1,4 +1,4 @@
-"""A mesh mended: what the proved mender keeps of it, and what it changed or lost, by number, by line and in words."""
+"""A mesh mended: what the proved mender keeps of it, and what is lost, by number, by line and in words."""
 
 from __future__ import annotations
 
@@ -14,8 +14,8 @@ from .mesh import Mesh
 
 @dataclass(frozen=True)
 class Change:
-    """An arc that was changed or lost, or a torn end: its old number, the reason (rules.MEND_REASONS), its new number, None
-    where it is lost, the line where it stood, None where there are no lines, and words."""
+    """An arc that is lost, or a torn end: its old number, the reason (rules.MEND_REASONS), its new number, None for each since
+    what is kept is kept as it was, the line where it stood, None where there are no lines, and words."""
 
     old: int
     reason: int
@@ -89,39 +89,35 @@ def _mended(mesh, sent):
         hold_reply(len(found) % rules.RECORD_BYTES == 0, f"a {what} of {len(found)} bytes")
     kept = _old_numbers(records.get_list(listed), len(table) // rules.RECORD_BYTES)
     changes = _changes(mesh, len(sent) % rules.RECORD_BYTES, kept)
-    mended = _with_arcs(mesh, [replace(mesh.arcs[old], spare=0) for old in kept])
+    mended = _with_arcs(mesh, [mesh.arcs[old] for old in kept])
     hold_reply(listed == records.put_list(changes), "another list than that of its arcs")
     hold_reply(table == records.put_table(mended.arcs), "another arc than that of its number")
     return Mended(mesh, mended, changes)
 
 
 def _changes(mesh, torn, kept):
-    """What is changed or lost where the arcs with these old numbers are kept: they have to be those with no reason to go."""
+    """What is lost where the arcs with these old numbers are kept: they have to be those with no reason to go."""
     reasons = [rules.mend_reason(arc, bisect_left(kept, old)) for old, arc in enumerate(mesh.arcs)]
-    staying = [old for old, reason in enumerate(reasons) if reason is None or reason[0] == rules.SPARE_ZEROED]
-    hold_reply(kept == staying, "other arcs than are to be kept")
-    new_numbers = {old: new for new, old in enumerate(kept)}
+    hold_reply(kept == [old for old, reason in enumerate(reasons) if not reason], "other arcs than are to be kept")
     lines = [arc.line for arc in mesh.arcs]
     if torn:
         reasons.append(rules.torn_reason(torn))
         lines.append(None)
-    return tuple(
-        Change(old, reason[0], new_numbers.get(old), lines[old], reason[1]) for old, reason in enumerate(reasons) if reason
-    )
+    return tuple(Change(old, reason[0], None, lines[old], reason[1]) for old, reason in enumerate(reasons) if reason)
 
 
 def _with_arcs(mesh, arcs):
-    """The mesh with no arcs but these, and with those of its spans that still have one."""
-    spans = sorted({arc.span for arc in arcs} - {None})
-    arcs = (replace(arc, span=None if arc.span is None else spans.index(arc.span)) for arc in arcs)
-    return replace(mesh, arcs=tuple(arcs), spans=tuple(mesh.spans[span] for span in spans))
+    """The mesh with no arcs but these, and with those of its lines that still have one."""
+    cables = sorted({arc.cable for arc in arcs} - {None})
+    arcs = (replace(arc, cable=None if arc.cable is None else cables.index(arc.cable)) for arc in arcs)
+    return replace(mesh, arcs=tuple(arcs), cables=tuple(mesh.cables[cable] for cable in cables))
 
 
 # ---- in words ----
 
 
 def words(found):
-    """What was changed or lost, and which numbers shifted, a line each."""
+    """What was lost, and which numbers shifted, a line each."""
     if not found.changes:
         return [f"Nothing to mend: {_all_clean(found)}."]
     return [_summary(found), *map(_changed, found.changes), *(_shifted(*run) for run in found.shifts)]
@@ -134,18 +130,14 @@ def _all_clean(found):
 
 def _summary(found):
     arcs, kept = len(found.given.arcs), len(found.mesh.arcs)
-    reasons = [change.reason for change in found.changes]
-    counts = ((arcs - kept, "lost"), (reasons.count(rules.SPARE_ZEROED), "changed"))
-    parts = " and ".join(f"{count} {'is' if count == 1 else 'are'} {what}" for count, what in counts if count)
-    of_arcs = f"of {arcs} arc{'' if arcs == 1 else 's'} {parts}" if parts else _all_clean(found)
-    return f"Mended: {of_arcs}{'; a torn end is lost' if rules.LOST_TORN in reasons else ''}."
+    lost = f"of {arcs} arc{'' if arcs == 1 else 's'} {arcs - kept} {'is' if arcs - kept == 1 else 'are'} lost"
+    torn = any(change.reason == rules.LOST_TORN for change in found.changes)
+    return f"Mended: {lost if kept < arcs else _all_clean(found)}{'; a torn end is lost' if torn else ''}."
 
 
 def _changed(change):
     place = f"arc {change.old}" if change.line is None else f"line {change.line}, arc {change.old}"
-    if change.new is None:
-        return f"{place}: lost: {change.words}"
-    return f"{place}{'' if change.new == change.old else f', now arc {change.new}'}: {change.words}"
+    return f"{place}: lost: {change.words}"
 
 
 def _shifted(first_old, last_old, first_new, last_new):

@@ -30,17 +30,25 @@ class Site(_Named):
 
 
 @dataclass(frozen=True)
+class Trench(_Named):
+    """A span that has a name, since several lines may lie in it. `span` is its number, 0 while none does."""
+
+    span: int = 0
+
+
+@dataclass(frozen=True)
 class Arc:
     """One direction of one span. Each field is as wide as its place in the record, not as narrow as the planner's range:
-    what the planner refuses can be written too. `span` tells which line of a named mesh it came from: two arcs with the
-    same one are the two directions of a span. `line` is for messages, and is no part of what the arc is."""
+    what the planner refuses can be written too. `span` is the number of its span, 0 where that is not known: arcs with the
+    same number lie in one span. `cable` tells which line of a named mesh it came from: two arcs with the same one are its
+    two directions. `line` is for messages, and is no part of what the arc is."""
 
     tail: int
     head: int
     metres: int
     risks: frozenset[int]
-    spare: int = 0
-    span: int | None = None
+    span: int = 0
+    cable: int | None = None
     line: int | None = field(default=None, compare=False)
 
 
@@ -57,7 +65,7 @@ class Request:
 
 @dataclass(frozen=True)
 class Mesh:
-    """Arcs by number and the requests asked of them. `named` tells whether sites and risks have names; `spans` has the
+    """Arcs by number and the requests asked of them. `named` tells whether sites and risks have names; `cables` has the
     title of each span or arc line of a named mesh, None where it has none."""
 
     arcs: tuple[Arc, ...] = ()
@@ -65,7 +73,8 @@ class Mesh:
     named: bool = False
     sites: tuple[Site, ...] = ()
     risks: tuple[Risk, ...] = ()
-    spans: tuple[str | None, ...] = ()
+    cables: tuple[str | None, ...] = ()
+    trenches: tuple[Trench, ...] = ()
 
     def with_requests(self, *requests):
         return replace(self, requests=requests)
@@ -88,16 +97,27 @@ class Mesh:
     def short_risk(self, number):
         return self.risks[number].name if self.named else f"risk {number}"
 
+    def cable(self, number):
+        """What an arc goes by: the title of its line, else its two ends, told apart where several have the same ends; the
+        arc's number where the mesh has no names."""
+        return str(self.named_cable(number)) if self.named else f"arc {number}"
+
     def span(self, number):
-        """The span that an arc belongs to, as people call it: its title, else its two ends, told apart where several have
-        the same ends; an arc by its number where spans are not known."""
-        if not self.named:
-            return f"arc {number}"
+        """A span as people call it: its trench, else the line that has it to itself; its number where the mesh has no names."""
+        return str(self.named_span(number)) if self.named else f"span {number}"
+
+    def trench(self, number):
+        """The trench that a span is; None where it is none, or not known."""
+        return next((trench for trench in self.trenches if trench.span == number != 0), None)
+
+    def named_span(self, number):
+        """The name and title of a span of a named mesh."""
+        return self.trench(number) or self.named_cable([arc.span for arc in self.arcs].index(number))
+
+    def named_cable(self, number):
+        """The name and title of an arc's line in a named mesh."""
         arc = self.arcs[number]
-        first = next(a for a in self.arcs if a.span == arc.span)  # both directions have one name
-        ends = f"{self.sites[first.tail].name}-{self.sites[first.head].name}"
-        title = self.spans[arc.span]
-        if title:
-            return f"{title} ({ends})"
-        alike = sorted({a.span for a in self.arcs if {a.tail, a.head} == {arc.tail, arc.head}})
-        return f"{ends} no. {alike.index(arc.span) + 1}" if len(alike) > 1 else ends
+        first = next(a for a in self.arcs if a.cable == arc.cable)  # both directions have one name
+        ends, title = f"{self.sites[first.tail].name}-{self.sites[first.head].name}", self.cables[arc.cable]
+        alike = sorted({a.cable for a in self.arcs if {a.tail, a.head} == {arc.tail, arc.head}})
+        return _Named(ends if title or len(alike) == 1 else f"{ends} no. {alike.index(arc.cable) + 1}", title)

@@ -4,7 +4,7 @@ from dataclasses import replace
 
 from . import rules
 from .fault import InputFault
-from .mesh import Mesh
+from .mesh import Mesh, Trench
 
 
 def given(mesh, named, where):
@@ -14,15 +14,16 @@ def given(mesh, named, where):
     r = mesh.requests[0]
     _hold_named({r.source, r.terminal}.union(*({a.tail, a.head} for a in mesh.arcs)), "node", named.sites, where)
     _hold_named(set().union(*(a.risks for a in mesh.arcs)), "risk", named.risks, where)
-    if any(r.spare) or any(a.spare for a in mesh.arcs):
+    if any(r.spare):
         raise InputFault("spare bytes that are not zero cannot be written by name")
     fault = _fault(mesh)
     if fault:
         raise InputFault(f"what the planner refuses cannot be written by name: {fault}")
-    if [replace(a, span=None) for a in named.arcs] == list(mesh.arcs):
-        return replace(named, requests=mesh.requests)  # the same arcs: their spans and titles too
+    if [replace(a, cable=None) for a in named.arcs] == list(mesh.arcs):
+        return replace(named, requests=mesh.requests)  # the same arcs: their lines and titles too
     arcs = _paired(mesh.arcs)
-    return Mesh(arcs, mesh.requests, True, named.sites, named.risks, (None,) * (1 + max((a.span for a in arcs), default=-1)))
+    cables = (None,) * (1 + max((a.cable for a in arcs), default=-1))
+    return Mesh(arcs, mesh.requests, True, named.sites, named.risks, cables, named.trenches)
 
 
 def _hold_named(numbers, kind, known, where):
@@ -46,15 +47,34 @@ def _fault(mesh):
 
 
 def _paired(arcs):
-    """The arcs, with two in turn that are each other's way back taken as one span."""
+    """The arcs, with two in turn that are each other's way back in one span taken as one line."""
     found = []
     for arc in arcs:
-        span = 1 + max((a.span for a in found), default=-1)
-        if found and sum(a.span == span - 1 for a in found) == 1 and _is_way_back(found[-1], arc):
-            span -= 1
-        found.append(replace(arc, span=span))
+        cable = 1 + max((a.cable for a in found), default=-1)
+        if found and sum(a.cable == cable - 1 for a in found) == 1 and is_way_back(found[-1], arc):
+            cable -= 1
+        found.append(replace(arc, cable=cable))
     return tuple(found)
 
 
-def _is_way_back(one, other):
-    return (one.tail, one.head, one.metres, one.risks) == (other.head, other.tail, other.metres, other.risks)
+def is_way_back(one, other):
+    """Whether two arcs are the two directions of a known span."""
+    return one.span != 0 and replace(one, tail=one.head, head=one.tail, cable=other.cable) == other
+
+
+def with_trenches(mesh):
+    """The mesh with a trench, named by its number, for each span that its lines do not tell without one: they do where a
+    line has both directions, and no other arc lies in it."""
+    for number in sorted({arc.span for arc in mesh.arcs} - {0}):
+        arcs = [arc for arc in mesh.arcs if arc.span == number]
+        told = len(arcs) == 2 and arcs[0].cable == arcs[1].cable and is_way_back(*arcs)
+        if not told and not mesh.trench(number):
+            mesh = replace(mesh, trenches=(*mesh.trenches, Trench(_new_name(mesh, number), span=number)))
+    return mesh
+
+
+def _new_name(mesh, number):
+    name = f"S{number}"
+    while name in [trench.name for trench in mesh.trenches]:
+        name += "_"
+    return name

@@ -11,9 +11,9 @@ from .mesh import Arc, Mesh, Request
 
 REPLY_BYTES = 96
 
-_ARC = struct.Struct("<BBHIQ")  # tail, head, spare, metres, risks
+_ARC = struct.Struct("<BBHIQ")  # tail, head, span, metres, risks
 _REQUEST = struct.Struct("<BBHIII")  # source, terminal, spare, reach, allowance, spare
-_REPLY = struct.Struct("<5B3x3I4xQ32s32s")
+_REPLY = struct.Struct("<6B2x3I4xQ32s32s")
 _CHANGE = struct.Struct("<HBxH10x")  # old number, reason, new number
 _LOST = 2**16 - 1  # in place of a new number
 
@@ -32,10 +32,10 @@ def put_table(arcs):
 
 def _put_arc(number, a):
     try:
-        return _ARC.pack(a.tail, a.head, a.spare, a.metres, risks_field(a.risks))
+        return _ARC.pack(a.tail, a.head, a.span, a.metres, risks_field(a.risks))
     except (struct.error, ValueError):  # the latter for a negative risk
-        ranges = f"nodes are {rules.NODE_RANGE}, lengths {rules.METRES_RANGE}, risks {rules.RISK_RANGE}, spare bytes 0"
-        raise InputFault(f"arc {number} has a number that no record can hold: {ranges}") from None
+        ranges = f"lengths {rules.METRES_RANGE}, risks {rules.RISK_RANGE}, spans {rules.SPAN_RANGE}"
+        raise InputFault(f"arc {number} has a number that no record can hold: nodes are {rules.NODE_RANGE}, {ranges}") from None
 
 
 def put_request(r):
@@ -55,7 +55,7 @@ def get_mesh(data, where):
 def get_table(data):
     """The arcs of whole records."""
     fields = _ARC.iter_unpack(data)
-    return tuple(Arc(tail, head, metres, risks_of(risk_field), spare) for tail, head, spare, metres, risk_field in fields)
+    return tuple(Arc(tail, head, metres, risks_of(risk_field), span) for tail, head, span, metres, risk_field in fields)
 
 
 @dataclass(frozen=True)
@@ -78,11 +78,13 @@ def put_list(changes):
 
 @dataclass(frozen=True)
 class Reply:
-    """The fields of a reply record; the two routes as lists of arc numbers."""
+    """The fields of a reply record; the two routes as lists of arc numbers. `shared_spans` is how many of those shared are
+    spans: the record has no numbers of spans."""
 
     verdict: int
     shared: int
     floor: int
+    shared_spans: int
     ranked: int
     main_metres: int
     standby_metres: int
@@ -98,6 +100,7 @@ def get_reply(data):
         floor,
         main_arcs,
         standby_arcs,
+        shared_spans,
         ranked,
         main_metres,
         standby_metres,
@@ -109,6 +112,7 @@ def get_reply(data):
         verdict,
         shared,
         floor,
+        shared_spans,
         ranked,
         main_metres,
         standby_metres,

@@ -5,6 +5,8 @@ RISKS = 64
 ARCS = 128
 ARC_METRES_MAX = 2_000_000
 REACH_MAX = 62_000_000  # 31 arcs of 2,000,000 metres: no route is longer
+SPAN_MAX = 65_535  # numbers of spans begin at 1; 0 stands for a span that is not known
+SHARED_MAX = RISKS + NODES - 1  # every risk, and a span for each of the 31 arcs that a route has at most
 ALLOWANCE_MAX = 1_000_000
 RECORD_BYTES = 16  # an arc, a request, or a change that the mender lists
 MEND_BYTES_MAX = 4096  # of a table that is mended
@@ -13,6 +15,7 @@ MEND_BYTES_MAX = 4096  # of a table that is mended
 NODE_RANGE = f"0 to {NODES - 1}"
 RISK_RANGE = f"0 to {RISKS - 1}"
 METRES_RANGE = f"0 to {ARC_METRES_MAX:,} m"
+SPAN_RANGE = f"0 to {SPAN_MAX:,}"
 REACH_RANGE = f"0 to {REACH_MAX:,} m"
 ALLOWANCE_RANGE = f"1 to {ALLOWANCE_MAX:,}"
 
@@ -21,7 +24,7 @@ STOPPED = 1
 NO_ROUTE = 10
 
 # The faults of an arc; returned as one of these and REASONS times the arc's number.
-ARC_FAULTS = ARC_NODE, ARC_ENDS, ARC_LENGTH, ARC_SPARE = 20, 21, 22, 23
+ARC_FAULTS = ARC_NODE, ARC_ENDS, ARC_LENGTH = 20, 21, 22
 REASONS = 256
 
 REFUSALS = {
@@ -46,15 +49,13 @@ def arc_fault(arc):
         return ARC_ENDS, f"both ends are node {arc.tail}"
     if arc.metres > ARC_METRES_MAX:
         return ARC_LENGTH, f"length {arc.metres:,} m is over {ARC_METRES_MAX:,}"
-    if arc.spare:
-        return ARC_SPARE, f"the spare bytes are {arc.spare} and not zero"
     return None
 
 
 # ---- mending ----
 
-# Why an arc is changed or lost: the faults of an arc in turn, past the limit of arcs, or as a torn end.
-MEND_REASONS = LOST_NODE, LOST_ENDS, LOST_LENGTH, SPARE_ZEROED, LOST_PAST, LOST_TORN = 1, 2, 3, 4, 5, 6
+# Why an arc is lost: the faults of an arc in turn, past the limit of arcs, or as a torn end. 4 has ended with T-03.
+MEND_REASONS = LOST_NODE, LOST_ENDS, LOST_LENGTH, LOST_PAST, LOST_TORN = 1, 2, 3, 5, 6
 _REASON_OF = dict(zip(ARC_FAULTS, MEND_REASONS))
 
 MEND_REFUSALS = {
@@ -64,13 +65,13 @@ MEND_REFUSALS = {
 
 
 def mend_reason(arc, kept):
-    """Why an arc is changed or lost where `kept` are kept before it, by number and in words; None where it stays as it is."""
+    """Why an arc is lost where `kept` are kept before it, by number and in words; None where it stays, as it is."""
     fault = arc_fault(arc)
-    if fault and fault[0] != ARC_SPARE:
+    if fault:
         return _REASON_OF[fault[0]], fault[1]
     if kept >= ARCS:
         return LOST_PAST, f"{ARCS} arcs are kept before it"
-    return fault and (SPARE_ZEROED, f"the spare bytes were {arc.spare} and are zero")
+    return None
 
 
 def torn_reason(length):

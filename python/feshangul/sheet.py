@@ -39,10 +39,7 @@ def _asked(answer):
 
 def _remedy(refusal):
     """What mends a faulty arc."""
-    if refusal.arc is None:
-        return ""
-    of_spare = refusal.number % rules.REASONS == rules.ARC_SPARE
-    return f"`feshangul mend` {'makes such bytes zero' if of_spare else 'takes such arcs out'}.\n"
+    return "" if refusal.arc is None else "`feshangul mend` takes such arcs out.\n"
 
 
 def _verdict(pair):
@@ -62,26 +59,43 @@ def _verdict(pair):
 
 
 def _shared(pair):
+    return f"Shared by both routes: {_common(pair)}.\n"
+
+
+def _common(pair):
+    """What both routes share, by name. Where the span of an arc is not known, more may be common than are: hence `known`."""
+    risks = [pair.mesh.risk(r) for r in sorted(pair.shared_risks)]
+    spans = [pair.mesh.span(s) for s in pair.common_spans]
+    span = "span" if pair.spans_known else "known span"
     if not pair.shared:
-        return "Shared by both routes: no risk.\n"
-    return f"Shared by both routes: {_counted(pair.shared, 'risk')}: {_risks(pair.mesh, pair.shared_risks)}.\n"
+        return f"no risk and no {span}"
+    return f"{_listed(risks, 'risk')}; {_listed(spans, span)}"
+
+
+def _listed(names, thing):
+    return f"{_counted(len(names), thing)}: {', '.join(names)}" if names else f"no {thing}"
 
 
 def _floor(pair):
+    every = "On every route within this reach"
+    # What is on every route is on both of these; where they share no more, what they share is just that.
+    if pair.floor == pair.shared:
+        return f"{every}{', and so in every pair' if pair.floor else ''}: {_common(pair)}.\n"
     if not pair.floor:
-        return "On every route within this reach: no risk.\n"
-    # A risk on every route is on both of these; where they share no others, the shared ones are just those.
-    names = f": {_risks(pair.mesh, pair.shared_risks)}" if pair.floor == pair.shared else ""
-    return f"On every route within this reach, and so in every pair: {_counted(pair.floor, 'risk')}{names}.\n"
+        return f"{every}: no risk and no {'span' if all(a.span for a in pair.mesh.arcs) else 'known span'}.\n"
+    # The reply has their number alone: of which kind they are can be told where only one kind is shared.
+    kinds = [kind for kind, shared in (("risk", pair.shared_risks), ("span", pair.shared_spans)) if shared]
+    return f"{every}, and so in every pair: {_counted(pair.floor, *kinds)}.\n"
 
 
 def _met(pair):
     nodes = [pair.mesh.site(n) for n in pair.common_nodes]
-    spans = [pair.mesh.span(a) for a in pair.common_spans]
+    arcs = [pair.mesh.cable(a) for a in pair.uncounted_arcs]
     met = [f"{_counted(len(nodes), 'site')} ({', '.join(nodes)})"] if nodes else []
-    met += [f"{_counted(len(spans), 'span')} ({', '.join(spans)})"] if spans else []
+    uncounted = f"of no known span, which {'is' if len(arcs) == 1 else 'are'} not counted"
+    met += [f"{_counted(len(arcs), 'arc')} {uncounted} ({', '.join(arcs)})"] if arcs else []
     if not met:
-        return "Between the ends they pass no common site and no common span.\n"
+        return "Between the ends they pass no common site.\n"
     return f"Both routes pass {' and '.join(met)}.\n"
 
 
@@ -91,18 +105,22 @@ def _route(role, pair, route):
     for number in route.arcs:
         arc = mesh.arcs[number]
         ends = f"{mesh.short_site(arc.tail)} to {mesh.short_site(arc.head)}"
-        by = f"{mesh.span(number)}, arc {number}" if mesh.named else f"arc {number}"
         risks = ", ".join(mesh.short_risk(r) for r in sorted(arc.risks)) or "no risk"
-        text += f"  {ends}: {arc.metres:,} m by {by}; {risks}\n"
+        text += f"  {ends}: {arc.metres:,} m by {_by(mesh, number)}; {risks}\n"
     return text
 
 
-def _risks(mesh, risks):
-    return ", ".join(mesh.risk(r) for r in sorted(risks))
+def _by(mesh, number):
+    """What a route goes by between two sites. A line that has a span to itself has its name too, so that is not said twice."""
+    span = mesh.arcs[number].span
+    if mesh.named:
+        within = f" in {mesh.span(span)}" if mesh.trench(span) else ""
+        return f"{mesh.cable(number)}{within}, arc {number}"
+    return f"arc {number}" + (f" in span {span}" if span else "")
 
 
-def _counted(number, thing):
-    return f"{number:,} {thing}{'' if number == 1 else 's'}"
+def _counted(number, *things):
+    return f"{number:,} {' or '.join(thing + ('' if number == 1 else 's') for thing in things)}"
 
 
 # ---- as data ----
@@ -124,9 +142,11 @@ def data(answer):
         return found | {"words": answer.words, "arc": answer.arc, "line": line}
     shared = {
         "count": answer.shared,
+        "span_count": len(answer.shared_spans),
         "risks": [_risk(mesh, n) for n in sorted(answer.shared_risks)],
+        "spans": [_span(mesh, n) for n in answer.common_spans],
         "sites": [_site(mesh, n) for n in answer.common_nodes],
-        "spans": [mesh.span(a) for a in answer.common_spans],
+        "uncounted_arcs": [_arc(mesh, n) for n in answer.uncounted_arcs],
     }
     return found | {
         "shared": shared,
@@ -148,6 +168,11 @@ def _risk(mesh, number):
     return {"number": number, "name": risk and risk.name, "title": risk and risk.title}
 
 
+def _span(mesh, number):
+    span = mesh.named_span(number) if mesh.named else None
+    return {"number": number, "name": span and span.name, "title": span and span.title}
+
+
 def _route_data(mesh, route):
     return {
         "metres": route.metres,
@@ -159,9 +184,12 @@ def _route_data(mesh, route):
 
 def _arc(mesh, number):
     arc = mesh.arcs[number]
+    cable = mesh.named_cable(number) if mesh.named else None
     return {
         "number": number,
-        "span": mesh.span(number) if mesh.named else None,
+        "name": cable and cable.name,
+        "title": cable and cable.title,
+        "span": _span(mesh, arc.span) if arc.span else None,
         "from": _site(mesh, arc.tail),
         "to": _site(mesh, arc.head),
         "metres": arc.metres,

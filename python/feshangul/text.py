@@ -1,18 +1,19 @@
 """Meshes as people write them, by number or by name, and back (docs/MESHES.md)."""
 
 import difflib
+from dataclasses import replace
 
-from . import rules
+from . import names, rules
 from .fault import InputFault, quoted
 from .line import Line
-from .mesh import Arc, Mesh, Request, Risk, Site
+from .mesh import Arc, Mesh, Request, Risk, Site, Trench
 
 # The widths of the fields in the records: the numbered form takes what the planner refuses, as long as a record holds it.
 BYTE = 2**8 - 1
 TWO_BYTES = 2**16 - 1
 FOUR_BYTES = 2**32 - 1
 
-KINDS = ("site", "risk", "span", "arc", "request")
+KINDS = ("site", "risk", "trench", "span", "arc", "request")
 
 
 def read(text, where):
@@ -87,9 +88,11 @@ def _read_arc(line, arc, number):
     metres = line.metres("the length", FOUR_BYTES, rules.METRES_RANGE)
     line.need(",")
     risks = _read_risk_numbers(line)
-    spare = line.number("0 as spare bytes 2-3", TWO_BYTES) if line.take("spare") else 0
+    if line.name_ahead() == "spare":  # as it was written until T-03
+        raise InputFault('expected "span N", found "spare": these bytes of an arc are the number of its span now')
+    span = line.number("the span", TWO_BYTES, rules.SPAN_RANGE) if line.take("span") else 0
     line.end()
-    return Arc(tail, head, metres, risks, spare, line=number)
+    return Arc(tail, head, metres, risks, span, line=number)
 
 
 def _read_risk_numbers(line):
@@ -112,14 +115,15 @@ def _hold_once(risks, last):
         raise InputFault(f"expected each risk once, found {last} again")
 
 
-# ---- by name: sites, risks, spans, arcs and requests, each name declared above its first use ----
+# ---- by name: sites, risks, trenches, spans, arcs and requests, each name declared above its first use ----
 
 
 class _Named:
     def __init__(self):
         self.sites, self.risks = {}, {}  # by name, in the order of their numbers
-        self.lines = {}  # where a site or a risk was declared
-        self.arcs, self.spans, self.requests = [], [], []
+        self.trenches = {}  # by name, in the order of their lines
+        self.lines = {}  # where a site, a risk or a trench was declared
+        self.arcs, self.cables, self.requests = [], [], []
 
     def read(self, line, number):
         kind = line.name_ahead()
@@ -130,8 +134,8 @@ class _Named:
         line.end()
 
     def mesh(self):
-        sites, risks = tuple(self.sites.values()), tuple(self.risks.values())
-        return Mesh(tuple(self.arcs), tuple(self.requests), True, sites, risks, tuple(self.spans))
+        sites, risks, trenches = (tuple(named.values()) for named in (self.sites, self.risks, self.trenches))
+        return Mesh(tuple(self.arcs), tuple(self.requests), True, sites, risks, tuple(self.cables), trenches)
 
     def _read_site(self, line, number):
         name = self._declared(line, number, "site", self.sites, rules.NODES)
@@ -145,7 +149,11 @@ class _Named:
         name = self._declared(line, number, "risk", self.risks, rules.RISKS)
         self.risks[name] = Risk(name, line.title())
 
-    def _declared(self, line, number, kind, known, most):
+    def _read_trench(self, line, number):
+        name = self._declared(line, number, "trench", self.trenches)
+        self.trenches[name] = Trench(name, line.title())
+
+    def _declared(self, line, number, kind, known, most=None):
         name = line.name(f"a {kind}'s name")
         if name in known:
             raise InputFault(f"{kind} {quoted(name)} stands on line {self.lines[kind, name]} already")
@@ -168,9 +176,25 @@ class _Named:
         risks = self._read_risks(line)
         if len(self.arcs) + directions > rules.ARCS:
             raise InputFault(f"expected at most {rules.ARCS} arcs (a span is two), found arc {rules.ARCS + 1}")
+        span = self._span(line, directions)
         for ends in ((tail, head), (head, tail))[:directions]:
-            self.arcs.append(Arc(*ends, metres, risks, span=len(self.spans), line=number))
-        self.spans.append(line.title())
+            self.arcs.append(Arc(*ends, metres, risks, span, len(self.cables), number))
+        self.cables.append(line.title())
+
+    def _span(self, line, directions):
+        """The number of the span that a line lies in: its trench's, which gets one with its first line; else one of its own
+        for both directions, and none for one alone, whose way back may lie in the same."""
+        if line.name_ahead() != "in":
+            return self._next_span() if directions == 2 else 0
+        line.take("in")
+        name = line.name("a trench")
+        _hold_declared(name, "trench", self.trenches)
+        if not self.trenches[name].span:
+            self.trenches[name] = replace(self.trenches[name], span=self._next_span())
+        return self.trenches[name].span
+
+    def _next_span(self):
+        return 1 + max((arc.span for arc in self.arcs), default=0)
 
     def _read_risks(self, line):
         if line.take("-"):
@@ -207,9 +231,13 @@ def read_allowance(line):
 
 
 def _number_of(name, kind, known):
-    if name in known:
-        return list(known).index(name)
-    raise InputFault(f'expected a {kind} that a line "{kind} .." above declares, found {quoted(name)}{hint(name, known)}')
+    _hold_declared(name, kind, known)
+    return list(known).index(name)
+
+
+def _hold_declared(name, kind, known):
+    if name not in known:
+        raise InputFault(f'expected a {kind} that a line "{kind} .." above declares, found {quoted(name)}{hint(name, known)}')
 
 
 def hint(name, known):
@@ -232,27 +260,35 @@ def _write_numbered(mesh):
     spare = f" spare {r.spare[0]},{r.spare[1]}" if any(r.spare) else ""
     lines = [f"from {r.source} to {r.terminal} reach {r.reach} allowance {r.allowance}{spare}"]
     for number, a in enumerate(mesh.arcs):
-        spare = f" spare {a.spare}" if a.spare else ""
-        lines.append(f"{number}: {a.tail},{a.head},{a.metres},{braced(a.risks)}{spare}")
+        span = f" span {a.span}" if a.span else ""
+        lines.append(f"{number}: {a.tail},{a.head},{a.metres},{braced(a.risks)}{span}")
     return "\n".join(lines) + "\n"
 
 
 def _write_named(mesh):
+    mesh = names.with_trenches(mesh)
     lines = [" ".join(["site", s.name, *_title(s.title), *(f"{degrees:f}" for degrees in s.place or ())]) for s in mesh.sites]
     lines += [" ".join(["risk", r.name, *_title(r.title)]) for r in mesh.risks]
-    for span, title in enumerate(mesh.spans):
-        arcs = [a for a in mesh.arcs if a.span == span]
-        a = arcs[0]
-        risks = ",".join(mesh.risks[r].name for r in sorted(a.risks)) or "-"
-        ends = (mesh.sites[a.tail].name, mesh.sites[a.head].name)
-        lines.append(" ".join([KIND_OF[len(arcs)], *ends, _length(a.metres), risks, *_title(title)]))
+    lines += [" ".join(["trench", t.name, *_title(t.title)]) for t in mesh.trenches]
+    for cable, title in enumerate(mesh.cables):
+        lines += _written_cable(mesh, [a for a in mesh.arcs if a.cable == cable], title)
     for r in mesh.requests:
         ends = f"{mesh.sites[r.source].name} {mesh.sites[r.terminal].name}"
         lines.append(f"request {ends} reach {_length(r.reach)} allowance {r.allowance}")
     return "\n".join(lines) + "\n"
 
 
-KIND_OF = {1: "arc", 2: "span"}
+def _written_cable(mesh, arcs, title):
+    """One line for both directions of a known span; else a line for each arc, since a span line says that its span is known."""
+    both = len(arcs) == 2 and names.is_way_back(*arcs)
+    return [_written_arc(mesh, "span" if both else "arc", a, title) for a in (arcs[:1] if both else arcs)]
+
+
+def _written_arc(mesh, kind, a, title):
+    ends = (mesh.sites[a.tail].name, mesh.sites[a.head].name)
+    risks = ",".join(mesh.risks[r].name for r in sorted(a.risks)) or "-"
+    trench = mesh.trench(a.span)
+    return " ".join([kind, *ends, _length(a.metres), risks, *(("in", trench.name) if trench else ()), *_title(title)])
 
 
 def _title(title):

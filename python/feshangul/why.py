@@ -10,9 +10,9 @@ from .answer import Pair, plan
 
 @dataclass(frozen=True)
 class Why:
-    """`reach` is the least at which fewer risks are shared or, where there was no route, at which there is one; `shared` is
-    how many then are. Both are None where no reach does that; `stopped` tells that a larger allowance might, since it was
-    the allowance that ended the last try."""
+    """`reach` is the least at which fewer risks and spans are shared or, where there was no route, at which there is one;
+    `shared` is how many then are. Both are None where no reach does that; `stopped` tells that a larger allowance might,
+    since it was the allowance that ended the last try."""
 
     reach: int | None
     shared: int | None
@@ -20,14 +20,14 @@ class Why:
 
 
 def least_reach(answer):
-    """The least reach that betters an answer; None where none could: nothing is shared, or it was refused for a fault.
+    """The least reach that betters an answer; None where none could: the count is 0, or it was refused for a fault.
 
     A larger reach only adds routes behind those of the ranking, so the best pair never shares more: what is better at one
     reach is better at every larger one, and halving finds the least."""
     if isinstance(answer, Pair) and answer.shared > 0:
         most_shared = answer.shared - 1
     elif answer.number == rules.NO_ROUTE:
-        most_shared = rules.RISKS
+        most_shared = rules.SHARED_MAX
     else:
         return None
     found = _at(answer, rules.REACH_MAX)
@@ -57,7 +57,7 @@ def words(answer):
     better = least_reach(answer)
     refused = not isinstance(answer, Pair)
     if better is None:
-        return "" if refused else "No reach makes it fewer: nothing is shared.\n"
+        return "" if refused else "No reach makes it fewer: the count is 0.\n"
     if better.reach is None:
         if refused:
             return "No reach brings a route: none leads from one to the other.\n"

@@ -35,9 +35,9 @@ A_SHEET = """\
 From node 0 to node 3, each route within 10,000 m.
 Settled after 2 mains: no pair within this reach shares fewer, and none that shares as few is shorter. \
 No larger allowance changes this pair.
-Shared by both routes: no risk.
-On every route within this reach: no risk.
-Between the ends they pass no common site and no common span.
+Shared by both routes: no risk and no known span.
+On every route within this reach: no risk and no known span.
+Between the ends they pass no common site.
 Main: 5,000 m, 5 km: node 0, node 1, node 3.
   node 0 to node 1: 1,000 m by arc 0; risk 0
   node 1 to node 3: 4,000 m by arc 1; risk 1
@@ -133,7 +133,8 @@ class CommandTest(unittest.TestCase):
 
 
 def small_mesh(rng):
-    """A mesh of 4 to 8 nodes and up to 14 arcs with one request. Lengths and risks are few, so that much is equal and shared."""
+    """A mesh of 4 to 8 nodes and up to 14 arcs with one request. Lengths, risks and spans are few, so that much is equal and
+    shared."""
     nodes = rng.choice((4, 4, 4, 5, 5, 6, 7, 8))
     arcs = tuple(_small_arc(rng, nodes) for _ in range(rng.choice((rng.randint(1, 14), 12, 14))))
     source, terminal = rng.sample(range(nodes), 2)
@@ -141,8 +142,8 @@ def small_mesh(rng):
 
 
 def _small_arc(rng, nodes):
-    risks = frozenset(r for r in (0, 1, 2, 31, 32, 63) if rng.random() < 0.4)
-    return Arc(*rng.sample(range(nodes), 2), rng.randrange(0, 4000, 500), risks)
+    risks = frozenset(r for r in (0, 1, 2, 31, 32, 63) if rng.random() < 0.3)
+    return Arc(*rng.sample(range(nodes), 2), rng.randrange(0, 4000, 500), risks, rng.choice((0, 0, 1, 2, 256, 65535)))
 
 
 def damaged(rng, mesh):
@@ -150,8 +151,30 @@ def damaged(rng, mesh):
     (request,) = mesh.requests
     number, arc = rng.choice(list(enumerate(mesh.arcs)))
     of_request = ({"source": 40}, {"terminal": request.source}, {"reach": 70_000_000}, {"allowance": 0}, {"spare": (0, 9)})
-    of_arc = ({"head": 40}, {"head": arc.tail}, {"metres": 2_000_001}, {"spare": 1})
+    of_arc = ({"head": 40}, {"head": arc.tail}, {"metres": 2_000_001})
     change = rng.choice(of_request + of_arc)
     if change in of_request:
         return mesh.with_requests(replace(request, **change))
     return replace(mesh, arcs=(*mesh.arcs[:number], replace(arc, **change), *mesh.arcs[number + 1 :]))
+
+
+def routes(mesh, request):
+    """Every route of the mesh, whatever its length, in the order of their ranking: metres, arcs and what it carries, which
+    are the risks and the known spans of its arcs."""
+    found = []
+
+    def go_on(node, met, arcs):
+        if node == request.terminal:
+            metres = sum(mesh.arcs[number].metres for number in arcs)
+            found.append((metres, arcs, frozenset().union(*(_carried(mesh.arcs[number]) for number in arcs))))
+            return
+        for number, arc in enumerate(mesh.arcs):
+            if arc.tail == node and arc.head not in met:
+                go_on(arc.head, met | {arc.head}, (*arcs, number))
+
+    go_on(request.source, {request.source}, ())
+    return sorted(found, key=lambda route: route[:2])
+
+
+def _carried(arc):
+    return {("risk", risk) for risk in arc.risks} | ({("span", arc.span)} if arc.span else set())

@@ -8,18 +8,18 @@ from dataclasses import replace
 from unittest import mock
 
 import feshangul
-from feshangul import answer, library, text
+from feshangul import answer, library, records, rules, text
 from feshangul.fault import LibraryFault
 from feshangul.mesh import Arc, Mesh, Request
 
-from .shared import EXAMPLES, damaged, example, small_mesh
+from .shared import EXAMPLES, damaged, example, routes, small_mesh
 
 A = text.read(example("A.txt"), "A.txt")
 A1 = A.requests[0]
 
-# The reply to A1, as docs/FORMATS.md has it: settled, 0 shared, floor 0, two arcs each, ranked 2, 5,000 m each.
+# The reply to A1, as docs/FORMATS.md has it: settled, 0 shared, floor 0, two arcs each, no span shared, ranked 2, 5,000 m each.
 A1_REPLY = (
-    struct.pack("<5B3x3I4xQ", 0, 0, 0, 2, 2, 2, 5000, 5000, 0)
+    struct.pack("<6B2x3I4xQ", 0, 0, 0, 2, 2, 0, 2, 5000, 5000, 0)
     + bytes([0, 1]).ljust(32, b"\xff")
     + bytes([2, 3]).ljust(32, b"\xff")
 )
@@ -32,9 +32,9 @@ def planner_that_replies(number, reply=bytes(96)):
     return mock.patch("feshangul.answer.planner", return_value=fake)
 
 
-def with_bytes(**at):
-    """The reply to A1 with other bytes at these places: at_8=b"..", and so on."""
-    reply = bytearray(A1_REPLY)
+def with_bytes(reply=A1_REPLY, **at):
+    """A reply, that to A1 where none is given, with other bytes at these places: at_8=b"..", and so on."""
+    reply = bytearray(reply)
     for place, put in at.items():
         start = int(place.removeprefix("at_"))
         reply[start : start + len(put)] = put
@@ -74,7 +74,8 @@ class Replies(unittest.TestCase):
         self.assertEqual((pair.verdict, pair.number, pair.shared, pair.floor, pair.ranked), ("settled", 0, 0, 0, 2))
         self.assertEqual((pair.main.arcs, pair.main.nodes, pair.main.metres, pair.main.risks), ((0, 1), (0, 1, 3), 5000, {0, 1}))
         self.assertEqual((pair.standby.arcs, pair.standby.nodes, pair.standby.risks), ((2, 3), (0, 2, 3), {2, 3}))
-        self.assertEqual((pair.total, pair.shared_risks, pair.common_nodes, pair.common_spans), (10000, frozenset(), [], []))
+        self.assertEqual((pair.total, pair.shared_risks, pair.common_nodes), (10000, frozenset(), []))
+        self.assertEqual((pair.main.spans, pair.shared_spans, pair.common_spans, pair.uncounted_arcs), (set(), set(), [], []))
 
     def test_a_reply_that_does_not_fit_the_mesh_is_noticed(self):
         for found, number, reply in (
@@ -85,6 +86,9 @@ class Replies(unittest.TestCase):
             ("0 shared where 0 are", 0, with_bytes(at_24=b"\x01")),
             ("1 shared where 0 are", 0, with_bytes(at_1=b"\x01", at_31=b"\x80")),
             ("0 shared where 2 are", 0, with_bytes(at_64=b"\x00\x01")),
+            ("1 spans shared where 0 are", 0, with_bytes(at_5=b"\x01")),
+            ("255 spans shared where 0 are", 0, with_bytes(at_5=b"\xff")),
+            ("1 shared where 0 are", 0, with_bytes(at_1=b"\x01", at_5=b"\x01")),
             ("a floor of 1 over 0 shared", 0, with_bytes(at_2=b"\x01")),
             ("0 ranked", 0, with_bytes(at_8=b"\x00")),
             ("1001 ranked", 0, with_bytes(at_8=struct.pack("<I", 1001))),
@@ -105,7 +109,7 @@ class Replies(unittest.TestCase):
                 self.assert_noticed(found, A1)
 
     def test_no_single_wrong_bit_leads_to_other_routes(self):
-        # What is left unnoticed are bytes that say nothing (5-7, 20-23, behind a route) and a ranked within the allowance.
+        # What is left unnoticed are bytes that say nothing (6-7, 20-23, behind a route) and a ranked within the allowance.
         with planner_that_replies(0, A1_REPLY):
             right = answer.plan(A, A1)
         for bit in range(8 * 96):
@@ -126,6 +130,135 @@ class Replies(unittest.TestCase):
         other = text.read(example("B.txt"), "B.txt")
         with planner_that_replies(0, A1_REPLY), self.assertRaises(LibraryFault):
             answer.plan(other, other.requests[0])
+
+
+# ---- spans ----
+
+# Two routes, [0,1,2] and [0,3,4]: the span of arc 0, which is on both, is not known; arcs 1 and 3 lie in one span.
+SPANS = text.read(
+    """\
+from 0 to 3 reach 100 allowance 9
+0: 0,1,1,{}
+1: 1,2,1,{5} span 9
+2: 2,3,1,{} span 300
+3: 1,4,2,{5} span 9
+4: 4,3,2,{} span 8
+""",
+    "spans",
+)
+# They share risk 5 and span 9, and there is no third: shared 2, floor 2, one of them a span. A route with itself would share
+# three. Twice the 3 m of the first is less than their 8 m together, so both are tried.
+SPANS_REPLY = (
+    struct.pack("<6B2x3I4xQ", 0, 2, 2, 3, 3, 1, 2, 3, 5, 1 << 5)
+    + bytes([0, 1, 2]).ljust(32, b"\xff")
+    + bytes([0, 3, 4]).ljust(32, b"\xff")
+)
+
+
+def replied(mesh):
+    """The number and the bytes that the planner gives for the only request of a mesh."""
+    (r,) = mesh.requests
+    return library.planner().plan(records.put_table(mesh.arcs), r.source, r.terminal, r.reach, r.allowance)
+
+
+class Spans(unittest.TestCase):
+    def test_the_planner_gives_the_reply_worked_by_hand(self):
+        self.assertEqual(replied(SPANS), (0, SPANS_REPLY))
+
+    def test_a_reply_becomes_a_pair_with_its_spans(self):
+        pair = answer.plan(SPANS, SPANS.requests[0])
+        self.assertEqual((pair.shared, pair.floor, pair.shared_risks, pair.shared_spans), (2, 2, {5}, {9}))
+        self.assertEqual((pair.main.spans, pair.standby.spans), ({9, 300}, {9, 8}))
+        self.assertEqual((pair.common_spans, pair.uncounted_arcs, pair.spans_known), ([9], [0], False))
+
+    def test_a_reply_with_other_spans_is_noticed(self):
+        for found, reply in (
+            ("0 spans shared where 1 are", with_bytes(SPANS_REPLY, at_5=b"\x00")),
+            ("2 spans shared where 1 are", with_bytes(SPANS_REPLY, at_5=b"\x02")),
+            ("1 shared where 2 are", with_bytes(SPANS_REPLY, at_1=b"\x01", at_5=b"\x00")),  # the count without spans
+            ("3 shared where 2 are", with_bytes(SPANS_REPLY, at_1=b"\x03", at_5=b"\x02")),
+            ("2 shared where 2 are", with_bytes(SPANS_REPLY, at_24=b"\x00")),
+            ("a floor of 3 over 2 shared", with_bytes(SPANS_REPLY, at_2=b"\x03")),
+        ):
+            with self.subTest(found), planner_that_replies(0, reply), self.assertRaises(LibraryFault) as raised:
+                answer.plan(SPANS, SPANS.requests[0])
+            self.assertIn(f"(it has {found})", str(raised.exception))
+
+    def test_no_single_wrong_bit_leads_to_another_pair(self):
+        # As with A1: bytes 6-7, 20-23 and those behind a route say nothing; ranked, and a floor no larger than what is
+        # shared, cannot be held against the mesh without listing its routes.
+        right = answer.plan(SPANS, SPANS.requests[0])
+        for bit in range(8 * 96):
+            reply = bytearray(SPANS_REPLY)
+            reply[bit // 8] ^= 1 << bit % 8
+            with self.subTest(bit), planner_that_replies(0, bytes(reply)):
+                try:
+                    found = answer.plan(SPANS, SPANS.requests[0])
+                except LibraryFault:
+                    continue
+                self.assertEqual(replace(found, ranked=2, floor=2), right)
+
+    def test_d2_shares_its_span_where_it_is_known(self):
+        for span, shared in ((0, 0), (1, 1), (255, 1), (256, 1), (65_535, 1)):
+            with self.subTest(span):
+                mesh = Mesh((Arc(0, 1, 1000, frozenset(), span),))
+                pair = answer.plan(mesh, Request(0, 1, 10_000, 1000))
+                self.assertEqual((pair.number, pair.shared, pair.floor, pair.ranked), (0, shared, shared, 1))
+                self.assertEqual((pair.shared_risks, len(pair.shared_spans)), (set(), shared))
+                self.assertEqual(pair.uncounted_arcs, [] if span else [0])
+
+    def test_a_span_crossed_twice_by_a_route_counts_once(self):
+        mesh = text.read("from 0 to 2 reach 9 allowance 9\n0: 0,1,1,{} span 7\n1: 1,2,1,{} span 7\n", "mesh")
+        pair = answer.plan(mesh, mesh.requests[0])
+        self.assertEqual((pair.shared, pair.floor, pair.common_spans), (1, 1, [7]))
+
+    def test_the_two_directions_of_a_span_are_one(self):
+        # The main goes 0 1 2 3 and the standby 0 2 1 3, through span 7 one way and the other. They share no risk; the two
+        # shorter routes, 0 1 3 and 0 2 3, have all four, and so share at least two with every other.
+        arcs = "0: 0,1,10,{0,1} span 1\n1: 0,2,10,{2,3} span 2\n2: 1,3,10,{2,3} span 3\n3: 2,3,10,{0,1} span 4\n"
+        mesh = text.read(f"from 0 to 3 reach 99 allowance 9\n{arcs}4: 1,2,1,{{}} span 7\n5: 2,1,1,{{}} span 7\n", "mesh")
+        pair = answer.plan(mesh, mesh.requests[0])
+        self.assertEqual((pair.main.arcs, pair.standby.arcs, pair.ranked), ((0, 4, 3), (1, 5, 2), 4))
+        self.assertEqual((pair.shared, pair.floor, pair.common_spans, pair.spans_known), (1, 0, [7], True))
+
+    def test_spans_are_told_in_the_mains_order(self):
+        arcs = "0: 0,1,1,{} span 9\n1: 1,2,1,{} span 3\n2: 2,3,1,{}\n3: 3,4,1,{} span 9\n4: 4,5,1,{} span 7\n"
+        mesh = text.read(f"from 0 to 5 reach 9 allowance 9\n{arcs}", "mesh")
+        pair = answer.plan(mesh, mesh.requests[0])
+        self.assertEqual((pair.shared, pair.common_spans, pair.uncounted_arcs), (3, [9, 3, 7], [2]))
+
+    def test_the_most_that_can_be_shared_is_95(self):
+        arcs = tuple(Arc(n, n + 1, 1, frozenset(range(64)), n + 1) for n in range(31))
+        pair = answer.plan(Mesh(arcs), Request(0, 31, 31, 1))
+        self.assertEqual((pair.shared, pair.floor, len(pair.shared_spans)), (95, 95, 31))
+        self.assertEqual(pair.shared, rules.SHARED_MAX)
+
+    def test_numbers_of_spans_matter_only_as_equal_or_not(self):
+        rng = random.Random(31)
+        for number in range(200):
+            mesh = small_mesh(rng)
+            others = [0, *rng.sample(range(1, 65_536), 4)]
+            renamed = dict(zip((0, 1, 2, 256, 65_535), others))
+            other = replace(mesh, arcs=tuple(replace(arc, span=renamed[arc.span]) for arc in mesh.arcs))
+            with self.subTest(number):
+                self.assertEqual(replied(mesh), replied(other))
+
+    def test_the_floor_and_what_is_shared_of_500_random_meshes_are_those_of_a_plain_listing(self):
+        rng = random.Random(32)
+        spans_on_every_route = 0
+        for number in range(500):
+            mesh = small_mesh(rng)
+            request = mesh.requests[0]
+            found = answer.plan(mesh, request)
+            within = [carried for metres, _, carried in routes(mesh, request) if metres <= request.reach]
+            with self.subTest(number):
+                self.assertEqual(found.number == 10, not within)
+                if within:
+                    every = frozenset.intersection(*within)
+                    self.assertEqual(found.floor, len(every))
+                    self.assertEqual(found.shared, min(len(a & b) for a in within[: request.allowance] for b in within))
+                    spans_on_every_route += any(kind == "span" for kind, _ in every)
+        self.assertGreater(spans_on_every_route, 50)
 
 
 class Refusals(unittest.TestCase):
@@ -167,11 +300,10 @@ class Refusals(unittest.TestCase):
         for reason, words, arc in (
             (20, "tail node 32 is over 31", "32,1,5,{}"),
             (20, "head node 255 is over 31", "0,255,5,{}"),
-            (20, "tail node 40 is over 31", "40,40,4294967295,{} spare 1"),
+            (20, "tail node 40 is over 31", "40,40,4294967295,{} span 1"),
             (21, "both ends are node 7", "7,7,2000001,{}"),
-            (22, "length 2,000,001 m is over 2,000,000", "0,1,2000001,{} spare 3"),
+            (22, "length 2,000,001 m is over 2,000,000", "0,1,2000001,{} span 3"),
             (22, "length 4,294,967,295 m is over 2,000,000", "0,1,4294967295,{}"),
-            (23, "the spare bytes are 256 and not zero", "0,1,5,{} spare 256"),
         ):
             with self.subTest(arc):
                 mesh = text.read(f"from 0 to 1 reach 10 allowance 1\n\n0: 0,1,5,{{}}\n# faulty:\n1: {arc}\n", "mesh")
@@ -179,9 +311,9 @@ class Refusals(unittest.TestCase):
                 self.assertEqual(answer.plan(mesh, mesh.requests[0]).arc, 1)
 
     def test_the_lowest_faulty_arc_of_several_is_told(self):
-        arcs = "0: 0,1,5,{}\n1: 0,1,5,{} spare 9\n2: 40,1,5,{}\n3: 1,1,5,{}\n"
+        arcs = "0: 0,1,5,{} span 9\n1: 0,1,2000001,{}\n2: 40,1,5,{}\n3: 1,1,5,{}\n"
         mesh = text.read("from 0 to 1 reach 10 allowance 1\n" + arcs, "mesh")
-        self.assert_refused(279, "arc 1, line 3: the spare bytes are 9 and not zero", mesh, mesh.requests[0])
+        self.assert_refused(278, "arc 1, line 3: length 2,000,001 m is over 2,000,000", mesh, mesh.requests[0])
 
     def test_the_arc_and_its_line_are_told_by_their_own_numbers(self):
         comments = "#\n" * 7  # so that arc 21 stands on line 30
@@ -190,25 +322,25 @@ class Refusals(unittest.TestCase):
         self.assert_refused(5398, "arc 21, line 30: length 2,000,001 m is over 2,000,000", mesh, mesh.requests[0])
 
     def test_the_last_arc_of_the_largest_table_is_told(self):
-        mesh = Mesh((Arc(0, 1, 5, frozenset()),) * 127 + (Arc(0, 1, 5, frozenset(), 1),))
-        self.assert_refused(32_535, "arc 127: the spare bytes are 1 and not zero", mesh, A1)
+        mesh = Mesh((Arc(0, 1, 5, frozenset()),) * 127 + (Arc(0, 1, 2_000_001, frozenset()),))
+        self.assert_refused(32_534, "arc 127: length 2,000,001 m is over 2,000,000", mesh, A1)
 
     def test_a_faulty_arc_of_bytes_is_told_without_a_line(self):
         mesh = Mesh((Arc(3, 3, 5, frozenset()),))
         self.assert_refused(21, "arc 0: both ends are node 3", mesh, Request(0, 1))
 
     def test_a_number_that_is_not_known_is_a_refusal(self):
-        for number in (9, 11, 13, 24, 266, 4_294_967_295):  # 9 and 11 have ended; 266 is 10 with an arc
+        for number in (9, 11, 13, 23, 24, 266, 279, 4_294_967_295):  # 9, 11 and 23 have ended; 266 is 10 with an arc
             with self.subTest(number), planner_that_replies(number):
                 self.assert_refused(number, "a number that this version does not know", A, A1)
 
     def test_a_number_for_an_arc_without_that_fault_is_noticed(self):
-        sound, spare, long = Arc(0, 1, 5, frozenset()), Arc(0, 1, 5, frozenset(), 1), Arc(0, 1, 2_000_001, frozenset(), 1)
+        sound, equal, long = Arc(0, 1, 5, frozenset(), 1), Arc(1, 1, 2_000_001, frozenset()), Arc(0, 1, 2_000_001, frozenset())
         for number, *arcs in (
             (21, long),  # another fault
-            (23, long),  # not the first fault
+            (22, equal),  # not the first fault
             (278, long, sound),  # a sound arc
-            (278, spare, long),  # not the lowest arc
+            (278, equal, long),  # not the lowest arc
             (534, sound, long),  # no arc
             (2**32 - 234, long),
             (22,),
@@ -279,6 +411,9 @@ class Package(unittest.TestCase):
         mesh = feshangul.Mesh((feshangul.Arc(0, 1, 7, risk), feshangul.Arc(0, 1, 9, risk)))
         pair = feshangul.plan(mesh, feshangul.Request(0, 1))
         self.assertEqual((pair.main.arcs, pair.standby.arcs, pair.shared_risks), ((0,), (0,), {63}))
+        mesh = feshangul.Mesh((feshangul.Arc(0, 1, 7, risk, span=4), feshangul.Arc(0, 1, 9, risk, span=5)))
+        pair = feshangul.plan(mesh, feshangul.Request(0, 1))
+        self.assertEqual((pair.main.arcs, pair.standby.arcs, pair.shared_spans), ((0,), (1,), set()))
 
     def test_a_number_that_no_call_can_carry_is_told_with_the_true_ranges_and_not_cut(self):
         for change in ({"source": 2**32}, {"terminal": -1}, {"reach": 2**32 + 10_000}, {"allowance": 2**64}):
@@ -298,13 +433,14 @@ class Package(unittest.TestCase):
             Arc(0, 1, 5, frozenset({64})),
             Arc(0, 1, 5, frozenset({-1})),
             Arc(0, 1, 5, frozenset(), 2**16),
+            Arc(0, 1, 5, frozenset(), -1),
         ):
             with self.subTest(faulty), self.assertRaises(feshangul.InputFault) as raised:
                 feshangul.plan(feshangul.Mesh((*A.arcs, faulty)), A1)
             self.assertEqual(
                 str(raised.exception),
                 "arc 5 has a number that no record can hold: nodes are 0 to 31, lengths 0 to 2,000,000 m, risks 0 to 63, "
-                "spare bytes 0",
+                "spans 0 to 65,535",
             )
 
     def test_an_input_fault_is_a_fault(self):

@@ -158,7 +158,7 @@ class HelpAndVersion(CommandTest):
                     "MESH",
                     "--bytes",
                     "--json",
-                    "0 nothing to mend, 1 something was changed or lost, 2 usage or input, 3 refused by number",
+                    "0 nothing to mend, 1 something is lost, 2 usage or input, 3 refused by number",
                 ),
             ),
             (
@@ -175,7 +175,7 @@ class HelpAndVersion(CommandTest):
                     self.assertIn(word, help_text)
 
     def test_version_is_that_of_the_header(self):
-        self.assertEqual(run("--version"), Ran(0, b"feshangul 0.4.0\n", b""))
+        self.assertEqual(run("--version"), Ran(0, b"feshangul 0.5.0\n", b""))
         header = (RELEASE / "feshangul.h").read_text(encoding="utf-8")
         self.assertIn(f'#define FESHANGUL_VERSION "{feshangul.__version__}"\n', header)
 
@@ -227,7 +227,7 @@ Refused, number 10: no route from source to terminal is within reach.
         )
 
     def test_why_follows_the_sheet(self):
-        self.assertEqual(call("plan", A, "--why"), Ran(0, A_OUTPUT + b"No reach makes it fewer: nothing is shared.\n", b""))
+        self.assertEqual(call("plan", A, "--why"), Ran(0, A_OUTPUT + b"No reach makes it fewer: the count is 0.\n", b""))
 
     def test_options_stand_for_that_field_of_every_request(self):
         mesh = self.file(NAMED + "request A B reach 5km allowance 7\nrequest B A\n")
@@ -299,7 +299,14 @@ Refused, number 10: no route from source to terminal is within reach.
 
 
 def node(number):
+    """A node, a risk or a span that has no name."""
     return {"number": number, "name": None, "title": None}
+
+
+def arc(number, tail, head, metres, risks, span=None):
+    """An arc of a mesh by number."""
+    between = {"span": span, "from": node(tail), "to": node(head)}
+    return node(number) | between | {"metres": metres, "risks": [node(risk) for risk in risks]}
 
 
 A_JSON = {
@@ -309,7 +316,7 @@ A_JSON = {
     "to": node(3),
     "reach": 10000,
     "allowance": 1000,
-    "shared": {"count": 0, "risks": [], "sites": [], "spans": []},
+    "shared": {"count": 0, "span_count": 0, "risks": [], "spans": [], "sites": [], "uncounted_arcs": []},
     "floor": 0,
     "ranked": 2,
     "metres": 10000,
@@ -317,19 +324,13 @@ A_JSON = {
         "metres": 5000,
         "kilometres": 5,
         "nodes": [node(0), node(1), node(3)],
-        "arcs": [
-            {"number": 0, "span": None, "from": node(0), "to": node(1), "metres": 1000, "risks": [node(0)]},
-            {"number": 1, "span": None, "from": node(1), "to": node(3), "metres": 4000, "risks": [node(1)]},
-        ],
+        "arcs": [arc(0, 0, 1, 1000, [0]), arc(1, 1, 3, 4000, [1])],
     },
     "standby": {
         "metres": 5000,
         "kilometres": 5,
         "nodes": [node(0), node(2), node(3)],
-        "arcs": [
-            {"number": 2, "span": None, "from": node(0), "to": node(2), "metres": 4000, "risks": [node(2)]},
-            {"number": 3, "span": None, "from": node(2), "to": node(3), "metres": 1000, "risks": [node(3)]},
-        ],
+        "arcs": [arc(2, 0, 2, 4000, [2]), arc(3, 2, 3, 1000, [3])],
     },
 }
 
@@ -339,24 +340,34 @@ C = {"number": 2, "name": "C", "title": ""}
 RHINE = {"number": 0, "name": "R", "title": "Rhine"}
 S = {"number": 1, "name": "S", "title": None}
 
+SUD = {"number": 1, "name": "B-A", "title": "Süd"}  # a span that its line has to itself
+LIMMAT = {"number": 2, "name": "LIM", "title": "Limmat"}  # and one that is a trench
+
 ONE_WAY = """\
 site A "Zürich"
 site B
 site C ""
+site D
 risk R "Rhine"
 risk S
+trench LIM "Limmat"
 span B A 1.5km S,R "Süd"
 arc B C 1 -
-request A C reach 9km
+arc C D 2 - in LIM
+request A D reach 9km
 """
 
+D = {"number": 3, "name": "D", "title": None}
+UNKNOWN = {"number": 2, "name": "B-C", "title": None, "span": None, "from": B, "to": C, "metres": 1, "risks": []}
+
 ONE_ROUTE = {
-    "metres": 1501,
+    "metres": 1503,
     "kilometres": 2,
-    "nodes": [ZURICH, B, C],
+    "nodes": [ZURICH, B, C, D],
     "arcs": [
-        {"number": 1, "span": "Süd (B-A)", "from": ZURICH, "to": B, "metres": 1500, "risks": [RHINE, S]},
-        {"number": 2, "span": "B-C", "from": B, "to": C, "metres": 1, "risks": []},
+        {"number": 1, "name": "B-A", "title": "Süd", "span": SUD, "from": ZURICH, "to": B, "metres": 1500, "risks": [RHINE, S]},
+        UNKNOWN,
+        {"number": 3, "name": "C-D", "title": None, "span": LIMMAT, "from": C, "to": D, "metres": 2, "risks": []},
     ],
 }
 
@@ -364,13 +375,20 @@ ONE_WAY_JSON = {
     "verdict": "settled",
     "number": 0,
     "from": ZURICH,
-    "to": C,
+    "to": D,
     "reach": 9000,
     "allowance": 1000,
-    "shared": {"count": 2, "risks": [RHINE, S], "sites": [B], "spans": ["Süd (B-A)", "B-C"]},
-    "floor": 2,
+    "shared": {
+        "count": 4,
+        "span_count": 2,
+        "risks": [RHINE, S],
+        "spans": [SUD, LIMMAT],
+        "sites": [B, C],
+        "uncounted_arcs": [UNKNOWN],
+    },
+    "floor": 4,
     "ranked": 1,
-    "metres": 3002,
+    "metres": 3006,
     "main": ONE_ROUTE,
     "standby": ONE_ROUTE,
 }
@@ -389,6 +407,18 @@ class Json(CommandTest):
 
     def test_a_named_mesh_has_names_and_titles(self):
         self.assertEqual(self.fields(self.file(ONE_WAY)), [ONE_WAY_JSON])
+
+    def test_a_span_of_a_numbered_mesh_has_its_number(self):
+        (fields,) = self.fields(self.file("from 0 to 2 reach 9 allowance 9\n0: 0,1,1,{4} span 65535\n1: 1,2,1,{}\n"))
+        shared = {"count": 2, "span_count": 1, "risks": [node(4)], "spans": [node(65_535)], "sites": [node(1)]}
+        self.assertEqual(fields["shared"], shared | {"uncounted_arcs": [arc(1, 1, 2, 1, [])]})
+        self.assertEqual(fields["main"]["arcs"], [arc(0, 0, 1, 1, [4], node(65_535)), arc(1, 1, 2, 1, [])])
+        self.assertEqual(fields["floor"], 2)
+
+    def test_parallel_lines_without_a_title_are_told_apart_by_name(self):
+        (fields,) = self.fields(self.file("site A\nsite B\nspan A B 1 -\nspan B A 2 -\nrequest A B\n"))
+        spans = [{"number": 1, "name": "A-B no. 1", "title": None}, {"number": 2, "name": "B-A no. 2", "title": None}]
+        self.assertEqual([fields[role]["arcs"][0]["span"] for role in ("main", "standby")], spans)
 
     def test_a_refusal_has_words_and_where_it_is_one_arcs_fault_its_place(self):
         faulty = self.file("from 0 to 1 reach 10 allowance 1\n0: 0,1,5,{}\n\n1: 7,7,5,{}\n")
@@ -453,7 +483,7 @@ class Locales(CommandTest):
     def test_a_sheet_is_written_with_what_the_terminal_can_show(self):
         ran = run("plan", self.file(ONE_WAY), settings={"PYTHONIOENCODING": "ascii"})
         self.assertEqual(ran.status, 0)
-        self.assertIn(rb"From Z\xfcrich (A) to C, each route within 9,000 m.", ran.output)
+        self.assertIn(rb"From Z\xfcrich (A) to D, each route within 9,000 m.", ran.output)
 
 
 # ---- bytes and text ----
@@ -472,6 +502,21 @@ class BytesAndText(CommandTest):
     def test_text_takes_the_names_of_a_mesh(self):
         bare = without_comments(example("europe.txt")).encode()
         self.assertEqual(run("text", "--names", EUROPE, stdin=run("bytes", EUROPE).output), Ran(0, bare, b""))
+
+    def test_bytes_and_text_have_spans_by_number_and_by_name(self):
+        mesh = self.file("site A\nsite B\ntrench T\narc A B 1 - in T\nspan A B 2m -\nrequest A B reach 9m allowance 1\n")
+        data = call("bytes", mesh).output
+        by_number = "from 0 to 1 reach 9 allowance 1\n0: 0,1,1,{} span 1\n1: 0,1,2,{} span 2\n2: 1,0,2,{} span 2\n"
+        self.assertEqual(call("text", stdin=data), Ran(0, by_number.encode(), b""))
+        by_name = mesh.read_bytes().replace(b" 1 -", b" 1m -")
+        self.assertEqual(call("text", "--names", mesh, stdin=data), Ran(0, by_name, b""))
+        self.assertEqual(call("bytes", "-", stdin=by_number.encode()).output, data)
+
+    def test_a_mesh_of_an_older_release_with_used_spare_bytes_is_told_what_they_are_now(self):
+        mesh = self.file("from 0 to 1 reach 9 allowance 1\n0: 0,1,1,{} spare 7\n")
+        told = 'expected "span N", found "spare": these bytes of an arc are the number of its span now'
+        for command in ("plan", "mend", "bytes"):
+            self.assert_told(call(command, mesh), f"{mesh} line 2: {told}")
 
     def test_bytes_take_options_in_place_of_the_requests_fields(self):
         data = call("bytes", EUROPE, "--from", "PAR", "--to", "MUN", "--reach", "1km", "--allowance", "2").output
@@ -606,6 +651,8 @@ PLACES_IN_A_MESH = (
     'site A "{}',
     "risk {}",
     'risk R "{}"',
+    "trench {}",
+    'trench T "{}"',
     "request {}",
     HEAD + "span {} B 1 -",
     HEAD + "span A {} 1 -",
@@ -614,6 +661,8 @@ PLACES_IN_A_MESH = (
     HEAD + "span A B 1 R,{}",
     HEAD + 'span A B 1 R "{}"',
     HEAD + 'span A B 1 R "" {}',
+    HEAD + "span A B 1 R in {}",
+    HEAD + "trench T\narc A B 1 - in T {}",
     HEAD + "request A {}",
     HEAD + "request A B reach {}",
     HEAD + "request A B allowance {}",
@@ -629,6 +678,9 @@ PLACES_IN_A_MESH = (
     "from 0 to 1 reach 1 allowance 1\n0: 0,{}",
     "from 0 to 1 reach 1 allowance 1\n0: 0,1,{}",
     "from 0 to 1 reach 1 allowance 1\n0: 0,1,1,{{{}",
+    "from 0 to 1 reach 1 allowance 1\n0: 0,1,1,{0} {}",
+    "from 0 to 1 reach 1 allowance 1\n0: 0,1,1,{0} span {}",
+    "from 0 to 1 reach 1 allowance 1\n0: 0,1,1,{0} spare {}",
 )
 PLACES_ON_THE_LINE = (
     "{}",

@@ -1,10 +1,12 @@
-"""What README.md and docs/MESHES.md show is what the command reads and prints."""
+"""What README.md, docs/MESHES.md and docs/RULES.md show is what the command reads and prints."""
 
 import json
 import re
 import unittest
 
-from .shared import EXAMPLES, REPOSITORY, call
+from feshangul import text
+
+from .shared import EXAMPLES, REPOSITORY, call, example
 
 
 def blocks(name, begins):
@@ -17,6 +19,19 @@ def blocks(name, begins):
     return found[next(place for place, block in enumerate(found) if block.startswith(begins)) :]
 
 
+def fields_of(found):
+    """Every field of a JSON value, however deep."""
+    inner = found.values() if isinstance(found, dict) else found if isinstance(found, list) else ()
+    return set(found if isinstance(found, dict) else ()).union(*map(fields_of, inner))
+
+
+def rows(name, heading):
+    """The rows of the first table under a heading, as lists of cells, without the two that head it."""
+    section = (REPOSITORY / name).read_text(encoding="utf-8").split(f"## {heading}\n")[1]
+    table = re.search(r"(?:^\|.*\n)+", section, re.MULTILINE)[0].splitlines()[2:]
+    return [[cell.strip().replace(",", "") for cell in row.strip("|").split("|")] for row in table]
+
+
 class Documents(unittest.TestCase):
     maxDiff = None
 
@@ -27,7 +42,7 @@ class Documents(unittest.TestCase):
 
     def test_the_mesh_by_number_in_meshes_is_read(self):
         mesh, *_ = blocks("docs/MESHES.md", "from 0 to 3")
-        self.assertEqual(call("plan", "-", stdin=mesh.encode()).output.decode().split("\n")[0], "settled 3 3 1")
+        self.assertEqual(call("plan", "-", stdin=mesh.encode()).output.decode().split("\n")[0], "settled 4 4 1")
 
     def test_the_faulty_mesh_by_number_in_meshes_prints_what_stands_below_it(self):
         _, faulty, printed, *_ = blocks("docs/MESHES.md", "from 0 to 3")
@@ -48,6 +63,38 @@ class Documents(unittest.TestCase):
         for field in (*fields, *fields["changes"][0], "table"):
             with self.subTest(field):
                 self.assertIn(f"`{field}`", table)
+
+    def test_every_field_of_an_answer_in_json_stands_in_meshes(self):
+        mesh, *_ = blocks("docs/MESHES.md", "site LON")
+        _, faulty, *_ = blocks("docs/MESHES.md", "from 0 to 3")
+        answers = [call("plan", "--json", "--why", "-", stdin=written.encode()).output.decode() for written in (mesh, faulty)]
+        fields = fields_of([json.loads(line) for written in answers for line in written.splitlines()])
+        self.assertTrue({"span_count", "uncounted_arcs", "title", "why", "words"} <= fields)
+        table = (REPOSITORY / "docs/MESHES.md").read_text(encoding="utf-8").split("`plan --json` prints")[1]
+        for field in fields:
+            with self.subTest(field):
+                self.assertIn(f"`{field}`", table.split("`mend --json` prints")[0])
+
+    def test_the_meshes_worked_in_rules_are_the_examples(self):
+        for name, heading in (("A.txt", "A mesh worked by hand"), ("F.txt", "Two cables in one trench, worked by hand")):
+            with self.subTest(name):
+                expected = [
+                    [str(number), f"{a.tail} {a.head}", str(a.metres), " ".join(map(str, sorted(a.risks))) or "-", str(a.span)]
+                    for number, a in enumerate(text.read(example(name), name).arcs)
+                ]
+                found = rows("docs/RULES.md", heading)
+                self.assertEqual(found, [row[: len(found[0])] for row in expected])  # without spans where none is known
+
+    def test_the_mesh_with_a_trench_in_rules_has_the_answers_that_it_tells(self):
+        f = example("F.txt")
+        for lines, mesh, words in (
+            ("settled 0 0 3\nmain 1 0\nstandby 4 2 3\n", f, ()),
+            ("settled 1 1 1\nmain 1 0\nstandby 1 0\n", f, ("--reach", "3999")),
+            ("settled 0 0 1\nmain 1 0\nstandby 1 0\n", re.sub(" span [78]", "", f), ()),
+            ("settled 0 0 2\nmain 1 0\nstandby 2 1\n", f.replace("2000,{} span 7", "2000,{} span 9"), ()),
+        ):
+            with self.subTest(lines):
+                self.assertTrue(call("plan", "-", *words, stdin=mesh.encode()).output.decode().startswith(lines + "\n"))
 
     def test_the_first_command_of_the_readme_prints_what_stands_below_it(self):
         printed, *_ = blocks("README.md", "settled 0 0 4")

@@ -17,14 +17,14 @@ from unittest import mock
 import feshangul
 from feshangul import library, mending, records, rules, text
 from feshangul.fault import LibraryFault
-from feshangul.mesh import Arc, Mesh, Risk, Site
+from feshangul.mesh import Arc, Mesh, Risk, Site, Trench
 
 from .shared import A_HEX, COMMAND, EXAMPLES, RELEASE, CommandTest, Ran, call, example, run, without_comments
 
 HEAD = "from 0 to 1 reach 10 allowance 1\n"
 SOUND = Arc(0, 1, 5, frozenset({0, 63}))
 NODE, ENDS, LENGTH = replace(SOUND, head=40), replace(SOUND, head=0), replace(SOUND, metres=2_000_001)
-SPARE = replace(SOUND, spare=7)
+SPAN = replace(SOUND, span=0x0207)
 
 
 def numbered(*arcs):
@@ -44,15 +44,15 @@ def changes_of(found):
 
 
 def plainly(data):
-    """The mended table and the list of what was changed or lost."""
+    """The mended table and the list of what is lost."""
     table, listed = b"", b""
     for start in range(0, len(data), 16):
-        record, kept = data[start : start + 16], len(table) // 16
-        reason = reason_of(record, kept)
-        if reason in (0, 4):
-            table += record[:2] + b"\0\0" + record[4:]
+        record = data[start : start + 16]
+        reason = reason_of(record, len(table) // 16)
         if reason:
-            listed += struct.pack("<HBxH10x", start // 16, reason, kept if reason == 4 else 65535)
+            listed += struct.pack("<HBxH10x", start // 16, reason, 65535)
+        else:
+            table += record
     return table, listed
 
 
@@ -65,9 +65,7 @@ def reason_of(record, kept):
         return 2
     if int.from_bytes(record[4:8], "little") > 2_000_000:
         return 3
-    if kept == 128:
-        return 5
-    return 4 if any(record[2:4]) else 0
+    return 5 if kept == 128 else 0
 
 
 def random_table(rng):
@@ -81,13 +79,13 @@ def random_table(rng):
 def random_record(rng, faulty):
     tail, head = rng.sample(range(32), 2)
     risks = rng.choice((0, 1 << rng.randrange(64), rng.getrandbits(64) & rng.getrandbits(64) & rng.getrandbits(64)))
-    record = bytearray(struct.pack("<BBHIQ", tail, head, 0, rng.randrange(2_000_001), risks))
+    span = rng.choice((0, 0, 1, 255, 256, 65535))
+    record = bytearray(struct.pack("<BBHIQ", tail, head, span, rng.randrange(2_000_001), risks))
     for place, put in (
         (0, bytes([rng.choice((32, 40, 255))])),
         (1, bytes([rng.choice((32, 40, 255))])),
         (1, bytes([tail])),
         (4, struct.pack("<I", rng.choice((2_000_001, 2**31, 2**32 - 1)))),
-        (2, struct.pack("<H", rng.choice((1, 255, 256, 65535)))),
     ):
         if rng.random() < faulty / 3:
             record[place : place + len(put)] = put
@@ -109,7 +107,7 @@ class RandomTables(unittest.TestCase):
                 self.assert_listed(found, *plainly(data))
             seen.update(change.reason for change in found.changes)
             seen["clean"] += not found.changes
-        self.assertEqual(set(seen), {1, 2, 3, 4, 5, 6, "clean", "refused"})
+        self.assertEqual(set(seen), {1, 2, 3, 5, 6, "clean", "refused"})
         self.assertGreater(min(seen.values()), 40)
 
     def assert_listed(self, found, table, listed):
@@ -132,11 +130,12 @@ class RandomTables(unittest.TestCase):
             data = random_table(rng)[:4096]
             found = mending.mend_table(data)
             with self.subTest(number):
-                lost = {change.old for change in found.changes if change.new is None}
+                lost = {change.old for change in found.changes}
+                self.assertEqual({change.new for change in found.changes} - {None}, set())
                 self.assertEqual(found.old_numbers, [old for old in range(len(data) // 16) if old not in lost])
                 for new, (old, arc) in enumerate(zip(found.old_numbers, found.mesh.arcs)):
                     self.assertEqual(mending.old_number(found.changes, new), old)
-                    self.assertEqual(arc, replace(found.given.arcs[old], spare=0))
+                    self.assertEqual(arc, found.given.arcs[old])
 
 
 # ---- one by one ----
@@ -147,12 +146,12 @@ class Reasons(unittest.TestCase):
         for reason, words, arc in (
             (1, "tail node 32 is over 31", "32,1,5,{}"),
             (1, "head node 255 is over 31", "0,255,5,{}"),
-            (1, "tail node 40 is over 31", "40,40,4294967295,{} spare 1"),
-            (1, "head node 32 is over 31", "0,32,5,{} spare 1"),
+            (1, "tail node 40 is over 31", "40,40,4294967295,{} span 1"),
+            (1, "head node 32 is over 31", "0,32,5,{} span 1"),
             (2, "both ends are node 7", "7,7,5,{}"),
-            (2, "both ends are node 0", "0,0,2000001,{} spare 3"),
+            (2, "both ends are node 0", "0,0,2000001,{} span 3"),
             (3, "length 2,000,001 m is over 2,000,000", "0,1,2000001,{}"),
-            (3, "length 4,294,967,295 m is over 2,000,000", "0,1,4294967295,{} spare 3"),
+            (3, "length 4,294,967,295 m is over 2,000,000", "0,1,4294967295,{} span 3"),
         ):
             with self.subTest(arc):
                 mesh = text.read(HEAD + f"\n0: 0,1,5,{{}}\n# faulty:\n1: {arc}\n2: 1,0,5,{{}}\n", "mesh")
@@ -160,11 +159,14 @@ class Reasons(unittest.TestCase):
                 self.assertEqual(found.changes, (mending.Change(1, reason, None, 5, words),))
                 self.assertEqual(found.mesh, replace(mesh, arcs=(mesh.arcs[0], mesh.arcs[2])))
 
-    def test_spare_bytes_of_a_kept_arc_are_zeroed(self):
-        mesh = text.read(numbered("7,7,5,{}", "31,0,2000000,{0,63} spare 256"), "mesh")
+    def test_the_span_of_a_kept_arc_is_kept(self):
+        mesh = text.read(numbered("7,7,5,{} span 3", "31,0,2000000,{0,63} span 256", "0,1,5,{} span 65535"), "mesh")
         found = mending.mend(mesh)
-        self.assertEqual(found.changes[1], mending.Change(1, 4, 0, 3, "the spare bytes were 256 and are zero"))
-        self.assertEqual(text.write(found.mesh), numbered("31,0,2000000,{0,63}"))
+        self.assertEqual(changes_of(found), [(0, 2, None)])
+        self.assertEqual(text.write(found.mesh), numbered("31,0,2000000,{0,63} span 256", "0,1,5,{} span 65535"))
+
+    def test_a_mesh_with_spans_is_clean(self):
+        self.assertEqual(mended(SPAN, SOUND, SPAN).changes, ())
 
     def test_a_clean_mesh_is_left_as_it_is(self):
         for path in sorted(EXAMPLES.glob("*.txt")):
@@ -185,7 +187,7 @@ class Reasons(unittest.TestCase):
         self.assertEqual(mending.mend(mesh).mesh.requests, mesh.requests)
 
     def test_kept_arcs_keep_the_lines_on_which_they_stood(self):
-        mesh = text.read(numbered("7,7,5,{}", "0,1,5,{}", "0,1,5,{} spare 1"), "mesh")
+        mesh = text.read(numbered("7,7,5,{}", "0,1,5,{}", "0,1,5,{} span 1"), "mesh")
         self.assertEqual([arc.line for arc in mending.mend(mesh).mesh.arcs], [3, 4])
 
 
@@ -209,8 +211,8 @@ class Limits(unittest.TestCase):
         found = mended(*[SOUND] * 128, NODE, ENDS, LENGTH, SOUND)
         self.assertEqual(changes_of(found), [(128, 1, None), (129, 2, None), (130, 3, None), (131, 5, None)])
 
-    def test_spare_bytes_past_the_limit_are_lost_with_their_arc(self):
-        self.assertEqual(changes_of(mended(*[SOUND] * 127, SPARE, SPARE)), [(127, 4, 127), (128, 5, None)])
+    def test_arcs_with_and_without_a_span_count_alike(self):
+        self.assertEqual(changes_of(mended(*[SOUND] * 127, SPAN, SPAN, SOUND)), [(128, 5, None), (129, 5, None)])
 
     def test_more_than_256_arcs_are_refused(self):
         words = "the table is over 4,096 bytes, which are 256 arcs"
@@ -247,8 +249,8 @@ class TornEnds(unittest.TestCase):
                     self.assertEqual(found.mesh.arcs, (SOUND,) * whole)
 
     def test_a_torn_end_stands_behind_the_other_changes(self):
-        found = mending.mend_table(records.put_table([NODE, SPARE]) + b"\0")
-        self.assertEqual(changes_of(found), [(0, 1, None), (1, 4, 0), (2, 6, None)])
+        found = mending.mend_table(records.put_table([NODE, SPAN]) + b"\0")
+        self.assertEqual(changes_of(found), [(0, 1, None), (2, 6, None)])
         self.assertEqual(found.old_numbers, [1])
 
     def test_a_torn_end_past_the_limit_is_torn(self):
@@ -259,10 +261,10 @@ class TornEnds(unittest.TestCase):
 class Shifts(unittest.TestCase):
     def test_runs_of_arcs_that_shifted_by_the_same(self):
         for shifts, arcs in (
-            ([], [SOUND, SPARE, SOUND]),
+            ([], [SOUND, SPAN, SOUND]),
             ([], [SOUND, NODE]),
             ([(1, 1, 0, 0)], [NODE, SOUND]),
-            ([(1, 3, 0, 2)], [NODE, SOUND, SPARE, SOUND]),
+            ([(1, 3, 0, 2)], [NODE, SOUND, SPAN, SOUND]),
             ([(2, 3, 1, 2)], [SOUND, ENDS, SOUND, SOUND, LENGTH]),
             ([(1, 1, 0, 0), (4, 5, 1, 2)], [NODE, SOUND, NODE, NODE, SOUND, SOUND]),
         ):
@@ -275,28 +277,49 @@ class Shifts(unittest.TestCase):
 
 def named(*arcs):
     sites = tuple(Site(name, name * 2) for name in "ABC")
-    return Mesh(arcs, (), True, sites, (Risk("R"),), ("first", None, "third"))
+    return Mesh(arcs, (), True, sites, (Risk("R"),), ("first", None, "third"), (Trench("T", "trench", 9),))
 
 
 class Named(unittest.TestCase):
     """By name no text is faulty, but a mesh that was made without one may be."""
 
     def test_names_and_titles_of_what_is_kept_are_kept(self):
-        arcs = [Arc(0, 1, 5, frozenset({0}), span=0), Arc(1, 0, 5, frozenset({0}), 7, span=0)]
-        arcs += [Arc(1, 1, 5, frozenset(), span=1), Arc(1, 2, 5, frozenset(), span=2), Arc(2, 99, 5, frozenset(), span=2)]
+        none = frozenset()
+        arcs = [Arc(0, 1, 5, frozenset({0}), 4, cable=0), Arc(1, 0, 5, frozenset({0}), 4, cable=0)]
+        arcs += [Arc(1, 1, 5, none, 6, cable=1), Arc(1, 2, 5, none, 9, cable=2), Arc(2, 99, 5, none, 9, cable=2)]
         found = mending.mend(named(*arcs))
-        self.assertEqual(changes_of(found), [(1, 4, 1), (2, 2, None), (4, 1, None)])
+        self.assertEqual(changes_of(found), [(2, 2, None), (4, 1, None)])
         self.assertEqual(
             text.write(found.mesh),
-            'site A "AA"\nsite B "BB"\nsite C "CC"\nrisk R\nspan A B 5m R "first"\narc B C 5m - "third"\n',
+            'site A "AA"\nsite B "BB"\nsite C "CC"\nrisk R\ntrench T "trench"\n'
+            'span A B 5m R "first"\narc B C 5m - in T "third"\n',
         )
-        self.assertEqual([found.mesh.span(arc) for arc in range(3)], ["first (A-B)", "first (A-B)", "third (B-C)"])
+        self.assertEqual([found.mesh.cable(arc) for arc in range(3)], ["first (A-B)", "first (A-B)", "third (B-C)"])
+        self.assertEqual([found.mesh.span(arc.span) for arc in found.mesh.arcs], ["first (A-B)", "first (A-B)", "trench (T)"])
+
+    def test_an_arc_that_lost_its_way_back_is_still_known_to_lie_in_its_span(self):
+        none = frozenset()
+        arcs = [Arc(0, 1, 5, none, 3, cable=0), Arc(1, 0, 2_000_001, none, 3, cable=0), Arc(1, 2, 1, none, cable=1)]
+        found = mending.mend(replace(named(*arcs), cables=("first", None), trenches=()))
+        written = text.write(found.mesh)
+        self.assertTrue(written.endswith('risk R\ntrench S3\narc A B 5m - in S3 "first"\narc B C 1m -\n'))
+        self.assertEqual([arc.span for arc in text.read(written, "mended").arcs], [1, 0])
+
+    def test_both_directions_of_a_line_whose_span_is_not_known_are_written_as_two_arcs(self):
+        none = frozenset()
+        mesh = replace(named(Arc(0, 1, 5, none, cable=0), Arc(1, 0, 5, none, cable=0)), cables=("first",), trenches=())
+        written = text.write(mending.mend(mesh).mesh)
+        self.assertTrue(written.endswith('risk R\narc A B 5m - "first"\narc B A 5m - "first"\n'))
+        self.assertEqual([arc.span for arc in text.read(written, "mended").arcs], [0, 0])
 
     def test_what_is_written_of_a_mended_mesh_is_read_back(self):
         none = frozenset()
-        arcs = [Arc(0, 1, 5, none, span=0), Arc(1, 0, 2_000_001, none, span=0), Arc(1, 2, 1, none, span=1)]
-        found = mending.mend(replace(named(*arcs), spans=("first", None)))
-        self.assertEqual(text.read(text.write(found.mesh), "mended"), found.mesh)
+        arcs = [Arc(0, 1, 5, none, 1, cable=0), Arc(1, 0, 5, none, 1, cable=0), Arc(1, 2, 2_000_001, none, cable=1)]
+        arcs += [Arc(1, 2, 1, none, 9, cable=2), Arc(2, 0, 1, none, cable=3)]
+        found = mending.mend(replace(named(*arcs), cables=("first", None, "third", None), trenches=(Trench("T", None, 9),)))
+        renumbered = [replace(arc, span={9: 2}.get(arc.span, arc.span)) for arc in found.mesh.arcs]
+        mesh = replace(found.mesh, arcs=tuple(renumbered), trenches=(Trench("T", None, 2),))
+        self.assertEqual(text.read(text.write(found.mesh), "mended"), mesh)
 
 
 # ---- damaged replies ----
@@ -310,7 +333,7 @@ def mender_that_replies(*reply):
 
 
 # Of each reason but the fifth one, and a clean arc before, between and behind.
-DATA = records.put_table([SOUND, NODE, SPARE, ENDS, SOUND, LENGTH, SOUND]) + b"torn"
+DATA = records.put_table([SOUND, NODE, SPAN, ENDS, SOUND, LENGTH, SOUND]) + b"torn"
 TABLE, LIST = plainly(DATA)
 PAST = records.put_table([SOUND] * 130)
 PAST_TABLE, PAST_LIST = plainly(PAST)
@@ -349,10 +372,11 @@ class Replies(unittest.TestCase):
 
     def test_a_reply_that_does_not_fit_the_table_is_noticed(self):
         kept, listed = "other arcs than are to be kept", "another list than that of its arcs"
-        first, second, third, fourth, last = (LIST[start : start + 16] for start in range(0, len(LIST), 16))
+        arc = "another arc than that of its number"
+        first, second, third, last = (LIST[start : start + 16] for start in range(0, len(LIST), 16))
         for found, table, changes in (
             ("a table of 63 bytes", TABLE[:-1], LIST),
-            ("a list of 79 bytes", TABLE, LIST[:-1]),
+            ("a list of 63 bytes", TABLE, LIST[:-1]),
             (kept, TABLE[:-16], LIST),
             (kept, TABLE + TABLE[:16], LIST),
             (kept, b"", LIST),
@@ -362,13 +386,14 @@ class Replies(unittest.TestCase):
             (listed, TABLE, LIST[:-16]),  # the torn end is not told
             (listed, TABLE, LIST + listing((8, 6, None))),
             (listed, TABLE, LIST + last),
-            (listed, TABLE, second + first + third + fourth + last),
-            (listed, TABLE, first + third + fourth + last),  # zeroed, and not told
-            (listed, TABLE, LIST.replace(third, listing((3, 1, None)))),  # another reason
-            (kept, TABLE, LIST.replace(third, listing((4, 2, None)))),  # another arc
-            (listed, TABLE, LIST.replace(second, listing((2, 4, 2)))),  # another new number
-            (kept, TABLE[:16] + TABLE[32:], LIST.replace(second, listing((2, 4, None)))),  # lost for its spare bytes
+            (kept, TABLE, second + first + third + last),
+            (listed, TABLE, LIST.replace(second, listing((3, 1, None)))),  # another reason
+            (kept, TABLE, LIST.replace(second, listing((4, 2, None)))),  # another arc
+            (kept, TABLE, LIST.replace(second, listing((3, 2, 2)))),  # a new number for what is lost
+            (kept, TABLE[:16] + TABLE[32:], first + listing((2, 4, None)) + second + third + last),  # lost for its span
             (kept, TABLE[16:], listing((0, 3, None)) + LIST),  # lost without a fault
+            (arc, TABLE[:18] + b"\0\0" + TABLE[20:], LIST),  # its span made zero, and not told
+            (listed, TABLE[:18] + b"\0\0" + TABLE[20:], first + listing((2, 4, 1)) + second + third + last),  # as 0.4.0 did
         ):
             with self.subTest(found, changes=changes.hex()):
                 self.assert_noticed(found, table, changes)
@@ -413,11 +438,11 @@ class Library(unittest.TestCase):
         self.assertEqual(str(raised.exception), "the planner's program has ended with status 1")
 
     def test_the_package_mends_with_what_it_names(self):
-        mesh = feshangul.Mesh((SPARE, NODE, SOUND))
+        mesh = feshangul.Mesh((SPAN, NODE, SOUND))
         found = feshangul.mend(mesh)
         self.assertIsInstance(found, feshangul.Mended)
         self.assertIsInstance(found.changes[0], feshangul.Change)
-        self.assertEqual((found.number, found.mesh.arcs, found.old_numbers), (0, (SOUND, SOUND), [0, 2]))
+        self.assertEqual((found.number, found.mesh.arcs, found.old_numbers), (0, (SPAN, SOUND), [0, 2]))
         self.assertEqual(feshangul.mend_table(records.put_table(mesh.arcs)), found)
         self.assertIsInstance(feshangul.mend(feshangul.Mesh((SOUND,) * 257)), feshangul.MendRefusal)
 
@@ -449,7 +474,7 @@ class Served(CommandTest):
         self.assertEqual(served.mend(bytes(1 << 20)), (2, b"", b""))
 
     def test_the_program_of_the_release_gives_the_same_output(self):
-        mesh = self.file(numbered("7,7,5,{}", "0,1,5,{} spare 9"))
+        mesh = self.file(numbered("7,7,5,{}", "0,1,5,{} span 9"))
         self.assertEqual(run("mend", mesh, settings=self.SETTINGS), run("mend", mesh))
         table = self.file(DATA, "table.bin")
         self.assertEqual(run("mend", "--bytes", table, settings=self.SETTINGS), run("mend", "--bytes", table))
@@ -501,14 +526,12 @@ class Words(unittest.TestCase):
         ):
             self.assert_words([f"Nothing to mend: {words}."], mended(*[SOUND] * arcs))
 
-    def test_the_summary_counts_what_is_lost_and_what_is_changed(self):
+    def test_the_summary_counts_what_is_lost(self):
         for words, arcs in (
             ("of 1 arc 1 is lost", [NODE]),
-            ("of 1 arc 1 is changed", [SPARE]),
             ("of 2 arcs 1 is lost", [SOUND, ENDS]),
             ("of 2 arcs 2 are lost", [NODE, ENDS]),
-            ("of 3 arcs 1 is lost and 1 is changed", [SOUND, SPARE, ENDS]),
-            ("of 4 arcs 2 are lost and 2 are changed", [SPARE, SPARE, NODE, ENDS]),
+            ("of 4 arcs 2 are lost", [SPAN, SPAN, NODE, ENDS]),
             ("of 130 arcs 2 are lost", [SOUND] * 130),
         ):
             with self.subTest(words):
@@ -518,8 +541,8 @@ class Words(unittest.TestCase):
         for words, arcs in (
             ("there is no arc", []),
             ("the only arc is clean", [SOUND]),
-            ("all 2 arcs are clean", [SOUND, SOUND]),
-            ("of 3 arcs 1 is lost and 1 is changed", [SOUND, SPARE, ENDS]),
+            ("all 2 arcs are clean", [SOUND, SPAN]),
+            ("of 3 arcs 1 is lost", [SOUND, SPAN, ENDS]),
         ):
             with self.subTest(words):
                 found = mending.mend_table(records.put_table(arcs) + b"torn")
@@ -527,12 +550,11 @@ class Words(unittest.TestCase):
                 self.assertEqual(mending.words(found)[-1], f"arc {len(arcs)}: lost: torn off after 4 of its 16 bytes")
 
     def test_each_change_and_each_run_is_a_line(self):
-        arcs = ("0,1,5,{}", "40,1,5,{}", "0,1,5,{}", "0,1,5,{} spare 7", "3,3,5,{}", "0,1,2000001,{}", "0,1,5,{}")
+        arcs = ("0,1,5,{}", "40,1,5,{}", "0,1,5,{}", "0,1,5,{} span 7", "3,3,5,{}", "0,1,2000001,{}", "0,1,5,{}")
         self.assert_words(
             [
-                "Mended: of 7 arcs 3 are lost and 1 is changed.",
+                "Mended: of 7 arcs 3 are lost.",
                 "line 3, arc 1: lost: tail node 40 is over 31",
-                "line 5, arc 3, now arc 2: the spare bytes were 7 and are zero",
                 "line 6, arc 4: lost: both ends are node 3",
                 "line 7, arc 5: lost: length 2,000,001 m is over 2,000,000",
                 "Arcs 2 to 3 are now arcs 1 to 2.",
@@ -540,10 +562,6 @@ class Words(unittest.TestCase):
             ],
             mending.mend(text.read(numbered(*arcs), "mesh")),
         )
-
-    def test_an_arc_that_keeps_its_number_is_told_with_that_alone(self):
-        words = ["Mended: of 2 arcs 1 is changed.", "arc 1: the spare bytes were 7 and are zero"]
-        self.assert_words(words, mended(SOUND, SPARE))
 
     def test_arcs_past_the_limit_are_told(self):
         words = mending.words(mended(NODE, *[SOUND] * 129))
@@ -560,8 +578,8 @@ def random_mesh(rng):
     where = []
     for number, a in enumerate(records.get_table(data[: len(data) // 16 * 16])):
         lines += [rng.choice(("", "# an arc", " \t"))] * (rng.random() < 0.1)
-        spare = f" spare {a.spare}" if a.spare else ""
-        lines.append(f"{number}: {a.tail},{a.head},{a.metres},{text.braced(a.risks)}{spare}")
+        span = f" span {a.span}" if a.span else ""
+        lines.append(f"{number}: {a.tail},{a.head},{a.metres},{text.braced(a.risks)}{span}")
         where.append(len(lines))
     return "\n".join(lines) + "\n", where
 
@@ -608,25 +626,22 @@ class RandomMeshes(unittest.TestCase):
         self.assertEqual([(int(t[1]), int(t[2])) for t in told if t], [(where[old], old) for old in reasons])
         new_numbers, kept = [], 0
         for old in range(len(where)):
-            stays = reasons.get(old, 4) == 4
-            new_numbers.append(kept if stays else None)
-            kept += stays
+            new_numbers.append(None if old in reasons else kept)
+            kept += old not in reasons
         self.assertEqual(followed(comments, len(where)), new_numbers)
 
 
 # ---- the command ----
 
-FAULTY = numbered("0,1,5,{}", "7,7,5,{}", "0,1,5,{3} spare 9")
+FAULTY = numbered("0,1,5,{}", "7,7,5,{}", "0,1,5,{3} span 9")
 MENDED = f"""\
-# Mended: of 3 arcs 1 is lost and 1 is changed.
+# Mended: of 3 arcs 1 is lost.
 # line 3, arc 1: lost: both ends are node 7
-# line 4, arc 2, now arc 1: the spare bytes were 9 and are zero
 # Arc 2 is now arc 1.
-{numbered("0,1,5,{}", "0,1,5,{3}")}""".encode()
+{numbered("0,1,5,{}", "0,1,5,{3} span 9")}""".encode()
 TOLD = b"""\
-Mended: of 7 arcs 3 are lost and 1 is changed; a torn end is lost.
+Mended: of 7 arcs 3 are lost; a torn end is lost.
 arc 1: lost: head node 40 is over 31
-arc 2, now arc 1: the spare bytes were 7 and are zero
 arc 3: lost: both ends are node 0
 arc 5: lost: length 2,000,001 m is over 2,000,000
 arc 7: lost: torn off after 4 of its 16 bytes
@@ -777,10 +792,9 @@ class Json(CommandTest):
                 "kept": 2,
                 "changes": [
                     {"old": 1, "reason": 2, "words": "both ends are node 7", "new": None, "line": 3},
-                    {"old": 2, "reason": 4, "words": "the spare bytes were 9 and are zero", "new": 1, "line": 4},
                 ],
                 "old_numbers": [0, 2],
-                "mesh": numbered("0,1,5,{}", "0,1,5,{3}"),
+                "mesh": numbered("0,1,5,{}", "0,1,5,{3} span 9"),
             },
         )
 
@@ -809,8 +823,8 @@ class Json(CommandTest):
 
     @unittest.skipUnless(shutil.which("jq"), "jq is not on this machine: Debian's package jq")
     def test_the_line_of_the_handbook_lists_the_lines_of_what_is_lost(self):
-        pipe = """"$0" mend "$1" --json | jq -r '.changes[] | select(.new == null) | .line'"""
-        mesh = self.file(numbered("0,1,5,{}", "7,7,5,{}", "0,1,5,{3} spare 9", "40,1,5,{}"))
+        pipe = """"$0" mend "$1" --json | jq -r '.changes[].line'"""
+        mesh = self.file(numbered("0,1,5,{}", "7,7,5,{}", "0,1,5,{3} span 9", "40,1,5,{}"))
         self.assertEqual(run(COMMAND, mesh, program=["sh", "-c", pipe]), Ran(0, b"3\n5\n", b""))
 
     @unittest.skipUnless(shutil.which("jq"), "jq is not on this machine: Debian's package jq")

@@ -7,7 +7,7 @@ from dataclasses import replace
 
 from feshangul import answer, sheet, text, why
 
-from .shared import A_SHEET, EXAMPLES, example, small_mesh
+from .shared import A_SHEET, EXAMPLES, example, routes, small_mesh
 
 
 def planned(written, **change):
@@ -36,11 +36,11 @@ K_SHEET = """\
 From node 0 to node 16, each route within 40,000 m.
 Settled after 1 main: no pair within this reach shares fewer, and none that shares as few is shorter. \
 No larger allowance changes this pair.
-Shared by both routes: 1 risk: risk 63.
-On every route within this reach, and so in every pair: 1 risk: risk 63.
+Shared by both routes: 1 risk: risk 63; no known span.
+On every route within this reach, and so in every pair: 1 risk: risk 63; no known span.
 Both routes pass 15 sites (node 1, node 2, node 3, node 4, node 5, node 6, node 7, node 8, node 9, node 10, node 11, \
-node 12, node 13, node 14, node 15) and 16 spans (arc 0, arc 1, arc 2, arc 3, arc 4, arc 5, arc 6, arc 7, arc 8, arc 9, \
-arc 10, arc 11, arc 12, arc 13, arc 14, arc 15).
+node 12, node 13, node 14, node 15) and 16 arcs of no known span, which are not counted (arc 0, arc 1, arc 2, arc 3, arc 4, \
+arc 5, arc 6, arc 7, arc 8, arc 9, arc 10, arc 11, arc 12, arc 13, arc 14, arc 15).
 Main: 31,984 m, 32 km: node 0, node 1, node 2, node 3, node 4, node 5, node 6, node 7, node 8, node 9, node 10, node 11, \
 node 12, node 13, node 14, node 15, node 16.
   node 0 to node 1: 1,999 m by arc 0; risk 63
@@ -95,6 +95,48 @@ request D A reach 20km
 """
 
 
+# Two cables from A to B in one trench, and a third way by C, of which one cable lies in a trench alone.
+TRENCHES = """\
+site A
+site B "Bonn"
+site C
+trench AHR "Ahr valley"
+trench HILLS
+span A B 70km - in AHR
+span A B 72km - in AHR
+span A C 60km - in HILLS
+span C B 60km -
+request A B reach 500km
+"""
+
+# After the first arc three routes, of which any two share one risk more; what stands in the braces is a risk of the first arc.
+FAN = """\
+from 0 to 2 reach 100 allowance 9
+0: 0,1,1,{{{}}} span 5
+1: 1,2,10,{{0,1}} span 11
+2: 1,2,20,{{1,2}} span 12
+3: 1,2,30,{{0,2}} span 13
+"""
+
+# After the first arc three routes, of which any two cross one span more.
+WHEEL = """\
+from 0 to 5 reach 100 allowance 9
+0: 0,1,1,{} span 5
+1: 1,2,1,{} span 1
+2: 2,5,1,{} span 2
+3: 1,3,2,{} span 2
+4: 3,5,2,{} span 3
+5: 1,4,3,{} span 3
+6: 4,5,3,{} span 1
+"""
+
+
+# One route, which shares with itself the most that there can be: 64 risks and 31 spans.
+MOST = "from 0 to 31 reach 31 allowance 1\n" + "".join(
+    f"{n}: {n},{n + 1},1,{text.braced(range(64))} span {n + 1}\n" for n in range(31)
+)
+
+
 class Sheets(unittest.TestCase):
     maxDiff = None
 
@@ -110,9 +152,9 @@ class Sheets(unittest.TestCase):
 From node 0 to node 3, each route within 10,000 m.
 Stopped after 1 main, which is the allowance: a larger one may find a pair that shares fewer, 0 at best, \
 or as few at less length. A larger allowance never gives a worse pair.
-Shared by both routes: 1 risk: risk 0.
-On every route within this reach: no risk.
-Both routes pass 1 site (node 1) and 1 span (arc 0).
+Shared by both routes: 1 risk: risk 0; no known span.
+On every route within this reach: no risk and no known span.
+Both routes pass 1 site (node 1) and 1 arc of no known span, which is not counted (arc 0).
 Main: 3,000 m, 3 km: node 0, node 1, node 2, node 3.
   node 0 to node 1: 1,000 m by arc 0; risk 0
   node 1 to node 2: 1,000 m by arc 4; risk 4
@@ -132,9 +174,9 @@ Together 8,000 m.
 From node 0 to node 3, each route within 4,999 m.
 Settled after 1 main: no pair within this reach shares fewer, and none that shares as few is shorter. \
 No larger allowance changes this pair.
-Shared by both routes: 3 risks: risk 0, risk 3, risk 4.
-On every route within this reach, and so in every pair: 3 risks: risk 0, risk 3, risk 4.
-Both routes pass 2 sites (node 1, node 2) and 3 spans (arc 0, arc 4, arc 3).
+Shared by both routes: 3 risks: risk 0, risk 3, risk 4; no known span.
+On every route within this reach, and so in every pair: 3 risks: risk 0, risk 3, risk 4; no known span.
+Both routes pass 2 sites (node 1, node 2) and 3 arcs of no known span, which are not counted (arc 0, arc 4, arc 3).
 Main: 3,000 m, 3 km: node 0, node 1, node 2, node 3.
   node 0 to node 1: 1,000 m by arc 0; risk 0
   node 1 to node 2: 1,000 m by arc 4; risk 4
@@ -152,9 +194,9 @@ Together 6,000 m.
 From node 0 to node 1, each route within 10,000 m.
 Settled after 1 main: no pair within this reach shares fewer, and none that shares as few is shorter. \
 No larger allowance changes this pair.
-Shared by both routes: 1 risk: risk 0.
-On every route within this reach, and so in every pair: 1 risk: risk 0.
-Both routes pass 1 span (arc 0).
+Shared by both routes: 1 risk: risk 0; no known span.
+On every route within this reach, and so in every pair: 1 risk: risk 0; no known span.
+Both routes pass 1 arc of no known span, which is not counted (arc 0).
 Main: 1,000 m, 1 km: node 0, node 1.
   node 0 to node 1: 1,000 m by arc 0; risk 0
 Standby: the same route once more; it fails with the main.
@@ -169,9 +211,9 @@ Together 2,000 m.
 From node 0 to node 1, each route within 0 m.
 Settled after 1 main: no pair within this reach shares fewer, and none that shares as few is shorter. \
 No larger allowance changes this pair.
-Shared by both routes: no risk.
-On every route within this reach: no risk.
-Both routes pass 1 span (arc 0).
+Shared by both routes: no risk and no known span.
+On every route within this reach: no risk and no known span.
+Both routes pass 1 arc of no known span, which is not counted (arc 0).
 Main: 0 m, 0 km: node 0, node 1.
   node 0 to node 1: 0 m by arc 0; no risk
 Standby: the same route once more; it fails with the main.
@@ -204,15 +246,10 @@ Refused, number 277: arc 1, line 3: both ends are node 7.
         )
 
     def test_what_mends_each_fault_of_an_arc_is_told(self):
-        for words, arc in (
-            ("takes such arcs out", "32,1,5,{}"),
-            ("takes such arcs out", "7,7,5,{}"),
-            ("takes such arcs out", "0,1,2000001,{}"),
-            ("makes such bytes zero", "0,1,5,{} spare 7"),
-        ):
+        for arc in ("32,1,5,{}", "7,7,5,{}", "0,1,2000001,{}"):
             with self.subTest(arc):
                 found = planned(f"from 0 to 1 reach 10 allowance 1\n0: {arc}\n")
-                self.assertEqual(sheet.words(found).splitlines()[2:], [f"`feshangul mend` {words}."])
+                self.assertEqual(sheet.words(found).splitlines()[2:], ["`feshangul mend` takes such arcs out."])
 
     def test_europe_within_1649_km_shares_the_rhine_bridge(self):
         found = planned(example("europe.txt"), reach=1_649_000)
@@ -222,8 +259,8 @@ Refused, number 277: arc 1, line 3: both ends are node 7.
 From London (LON) to Vienna (VIE), each route within 1,649,000 m.
 Settled after 3 mains: no pair within this reach shares fewer, and none that shares as few is shorter. \
 No larger allowance changes this pair.
-Shared by both routes: 1 risk: Rhine bridge (RHINE).
-On every route within this reach, and so in every pair: 1 risk: Rhine bridge (RHINE).
+Shared by both routes: 1 risk: Rhine bridge (RHINE); no span.
+On every route within this reach, and so in every pair: 1 risk: Rhine bridge (RHINE); no span.
 Both routes pass 1 site (Frankfurt (FRA)).
 Main: 1,608,100 m, 1,609 km: London, Brussels, Frankfurt, Munich, Vienna.
   LON to BRU: 372,400 m by LON-BRU, arc 2; CHT, BEL
@@ -245,9 +282,9 @@ The least reach at which fewer are shared is 1,702,050 m, 53,050 m more: 0 then.
 From Aachen (A) to Bonn (B), each route within 100,000 m.
 Stopped after 1 main, which is the allowance: no pair within this reach shares fewer; only the length could still get better. \
 A larger allowance never gives a worse pair.
-Shared by both routes: 1 risk: Exchange hall (HALL).
-On every route within this reach, and so in every pair: 1 risk: Exchange hall (HALL).
-Between the ends they pass no common site and no common span.
+Shared by both routes: 1 risk: Exchange hall (HALL); no span.
+On every route within this reach, and so in every pair: 1 risk: Exchange hall (HALL); no span.
+Between the ends they pass no common site.
 Main: 70,000 m, 70 km: Aachen, Bonn.
   A to B: 70,000 m by Upper line (A-B), arc 0; EIFEL, HALL
 Standby: 95,500 m, 96 km: Aachen, Bonn.
@@ -262,9 +299,9 @@ Together 165,500 m.
             """\
 From node 0 to node 1, each route within 100 m.
 Settled after 3 mains: every route within this reach has been tried as main. No larger allowance changes this pair.
-Shared by both routes: 2 risks: risk 1, risk 9.
+Shared by both routes: 2 risks: risk 1, risk 9; no known span.
 On every route within this reach, and so in every pair: 1 risk.
-Between the ends they pass no common site and no common span.
+Between the ends they pass no common site.
 Main: 10 m, 1 km: node 0, node 1.
   node 0 to node 1: 10 m by arc 0; risk 0, risk 1, risk 9
 Standby: 20 m, 1 km: node 0, node 1.
@@ -278,39 +315,48 @@ Together 30 m.
         self.assert_sheet(
             """\
 From D to A, each route within 20,000 m.
-Settled after 1 main: no pair within this reach shares fewer, and none that shares as few is shorter. \
+Settled after 2 mains: no pair within this reach shares fewer, and none that shares as few is shorter. \
 No larger allowance changes this pair.
-Shared by both routes: 1 risk: R.
-On every route within this reach, and so in every pair: 1 risk: R.
-Both routes pass 2 sites (C, Bonn (B)) and 3 spans (D-C no. 1, Rhine bridge (B-C), A-B no. 1).
+Shared by both routes: 1 risk: R; 1 span: Rhine bridge (B-C).
+On every route within this reach, and so in every pair: 1 risk: R; 1 span: Rhine bridge (B-C).
+Both routes pass 2 sites (C, Bonn (B)).
 Main: 8,000 m, 8 km: D, C, Bonn, A.
   D to C: 2,000 m by D-C no. 1, arc 6; no risk
   C to B: 1,000 m by Rhine bridge (B-C), arc 5; R
   B to A: 5,000 m by A-B no. 1, arc 1; no risk
-Standby: the same route once more; it fails with the main.
-Together 16,000 m.
+Standby: 10,000 m, 10 km: D, C, Bonn, A.
+  D to C: 3,000 m by Harbour (C-D), arc 9; no risk
+  C to B: 1,000 m by Rhine bridge (B-C), arc 5; R
+  B to A: 6,000 m by B-A no. 2, arc 2; no risk
+Together 18,000 m.
 """,
             PARALLEL,
         )
 
+    def test_several_spans_are_told_in_the_mains_order(self):
+        found = sheet.words(planned(PARALLEL, reach=8000)).splitlines()
+        shared = "1 risk: R; 3 spans: D-C no. 1, Rhine bridge (B-C), A-B no. 1."
+        self.assertEqual(found[2], f"Shared by both routes: {shared}")
+        self.assertEqual(found[3], f"On every route within this reach, and so in every pair: {shared}")
+
     def test_a_span_that_both_routes_pass_in_other_directions_is_told(self):
-        # The main goes S U V T and the standby S V U T; the patch between U and V is one span with two arcs.
+        # The main goes S U V T and the standby S V U T; the patch between U and V is one span with two arcs. Whoever takes
+        # S U T or S V T has all four risks, and shares two with each of these.
         self.assert_sheet(
             """\
 From S to T, each route within 62,000,000 m, which sets no limit.
-Settled after 3 mains: no pair within this reach shares fewer, and none that shares as few is shorter. \
-No larger allowance changes this pair.
-Shared by both routes: no risk.
-On every route within this reach: no risk.
-Both routes pass 2 sites (U, V) and 1 span (Patch (U-V)).
+Settled after 4 mains: every route within this reach has been tried as main. No larger allowance changes this pair.
+Shared by both routes: no risk; 1 known span: Patch (U-V).
+On every route within this reach: no risk and no known span.
+Both routes pass 2 sites (U, V).
 Main: 21 m, 1 km: S, U, V, T.
-  S to U: 10 m by S-U, arc 0; P
+  S to U: 10 m by S-U, arc 0; P, Q
   U to V: 1 m by Patch (U-V), arc 4; no risk
-  V to T: 10 m by V-T, arc 3; P
+  V to T: 10 m by V-T, arc 3; P, Q
 Standby: 21 m, 1 km: S, V, U, T.
-  S to V: 10 m by S-V, arc 1; Q
+  S to V: 10 m by S-V, arc 1; X, Y
   V to U: 1 m by Patch (U-V), arc 5; no risk
-  U to T: 10 m by U-T, arc 2; Q
+  U to T: 10 m by U-T, arc 2; X, Y
 Together 42 m.
 """,
             """\
@@ -320,17 +366,116 @@ site V
 site T
 risk P
 risk Q
-arc S U 10 P
-arc S V 10 Q
-arc U T 10 Q
-arc V T 10 P
+risk X
+risk Y
+arc S U 10 P,Q
+arc S V 10 X,Y
+arc U T 10 X,Y
+arc V T 10 P,Q
 span U V 1 - "Patch"
 request S T
 """,
         )
 
+    def test_two_cables_in_one_trench_are_no_pair_where_there_is_another_way(self):
+        # Without the trench the two cables would share nothing, at 142 km together. The ways are 70, 72 and 120 km long, and
+        # twice each of the first two is less than the 190 km of the pair, so that all three are tried.
+        self.assert_sheet(
+            """\
+From A to Bonn (B), each route within 500,000 m.
+Settled after 3 mains: no pair within this reach shares fewer, and none that shares as few is shorter. \
+No larger allowance changes this pair.
+Shared by both routes: no risk and no span.
+On every route within this reach: no risk and no span.
+Between the ends they pass no common site.
+Main: 70,000 m, 70 km: A, Bonn.
+  A to B: 70,000 m by A-B no. 1 in Ahr valley (AHR), arc 0; no risk
+Standby: 120,000 m, 120 km: A, C, Bonn.
+  A to C: 60,000 m by A-C in HILLS, arc 4; no risk
+  C to B: 60,000 m by C-B, arc 6; no risk
+Together 190,000 m.
+""",
+            TRENCHES,
+        )
+
+    def test_a_trench_is_shared_by_name(self):
+        # Within 119 km there are the two cables of the trench alone. One of them twice shares as few as both do, at less length.
+        self.assert_sheet(
+            """\
+From A to Bonn (B), each route within 119,000 m.
+Settled after 1 main: no pair within this reach shares fewer, and none that shares as few is shorter. \
+No larger allowance changes this pair.
+Shared by both routes: no risk; 1 span: Ahr valley (AHR).
+On every route within this reach, and so in every pair: no risk; 1 span: Ahr valley (AHR).
+Between the ends they pass no common site.
+Main: 70,000 m, 70 km: A, Bonn.
+  A to B: 70,000 m by A-B no. 1 in Ahr valley (AHR), arc 0; no risk
+Standby: the same route once more; it fails with the main.
+Together 140,000 m.
+""",
+            TRENCHES,
+            reach=119_000,
+        )
+
+    def test_d2_shares_its_span(self):
+        self.assert_sheet(
+            """\
+From node 0 to node 1, each route within 10,000 m.
+Settled after 1 main: no pair within this reach shares fewer, and none that shares as few is shorter. \
+No larger allowance changes this pair.
+Shared by both routes: no risk; 1 span: span 7.
+On every route within this reach, and so in every pair: no risk; 1 span: span 7.
+Between the ends they pass no common site.
+Main: 1,000 m, 1 km: node 0, node 1.
+  node 0 to node 1: 1,000 m by arc 0 in span 7; no risk
+Standby: the same route once more; it fails with the main.
+Together 2,000 m.
+""",
+            "from 0 to 1 reach 10000 allowance 1000\n0: 0,1,1000,{} span 7\n",
+        )
+
+    def test_what_is_shared_and_on_every_route_is_told_by_kind_where_the_reply_tells_it(self):
+        for shared, floor, written in (
+            ("1 risk: risk 1; 1 span: span 5", "1 risk or span", FAN.format("")),
+            ("2 risks: risk 1, risk 9; 1 span: span 5", "2 risks or spans", FAN.format("9")),
+            ("no risk; 2 spans: span 5, span 2", "1 span", WHEEL),
+        ):
+            with self.subTest(floor):
+                found = sheet.words(planned(written)).splitlines()
+                self.assertEqual(found[2], f"Shared by both routes: {shared}.")
+                self.assertEqual(found[3], f"On every route within this reach, and so in every pair: {floor}.")
+
+    def test_only_the_arcs_that_are_asked_about_have_to_have_a_known_span(self):
+        # The span of the arc back is not known, and it is on no route: of the pair all is known, of every route not all.
+        arcs = "0: 0,1,1,{0,1} span 1\n1: 0,1,1,{1,2} span 2\n2: 0,1,1,{0,2} span 3\n3: 1,0,1,{}\n"
+        found = sheet.words(planned("from 0 to 1 reach 9 allowance 9\n" + arcs)).splitlines()
+        self.assertEqual(found[2], "Shared by both routes: 1 risk: risk 1; no span.")
+        self.assertEqual(found[3], "On every route within this reach: no risk and no known span.")
+
 
 class NamesOfSpans(unittest.TestCase):
+    def test_a_span_is_called_by_its_trench_or_by_the_line_that_has_it_to_itself(self):
+        mesh = text.read(
+            """\
+site A
+site B
+trench T
+trench AHR "Ahr valley"
+span A B 1 - in AHR "North"
+span A B 1 - "South"
+arc B A 1 - in T
+arc A B 1 - in AHR
+span B A 1 -
+""",
+            "mesh",
+        )
+        self.assertEqual([arc.span for arc in mesh.arcs], [1, 1, 2, 2, 3, 1, 4, 4])
+        self.assertEqual([mesh.span(n) for n in range(1, 5)], ["Ahr valley (AHR)", "South (A-B)", "T", "B-A no. 5"])
+        self.assertEqual([mesh.trench(n) and mesh.trench(n).name for n in range(5)], [None, "AHR", None, "T", None])
+
+    def test_a_span_of_a_numbered_mesh_is_called_by_its_number(self):
+        self.assertEqual(text.read(example("A.txt"), "A.txt").span(65_535), "span 65535")
+
     def test_both_directions_have_one_name_and_those_with_the_same_ends_are_numbered(self):
         mesh = text.read(
             """\
@@ -346,7 +491,7 @@ arc A C 1 -
             "mesh",
         )
         self.assertEqual(
-            [mesh.span(number) for number in range(7)],
+            [mesh.cable(number) for number in range(7)],
             [
                 "B-A no. 1",
                 "B-A no. 1",
@@ -359,32 +504,15 @@ arc A C 1 -
         )
 
     def test_an_arc_of_a_numbered_mesh_is_called_by_its_number(self):
-        self.assertEqual(text.read(example("A.txt"), "A.txt").span(4), "arc 4")
+        self.assertEqual(text.read(example("A.txt"), "A.txt").cable(4), "arc 4")
 
 
 # ---- why ----
 
 
-def routes(mesh, request):
-    """Every route of the mesh, whatever its length, in the order of their ranking: metres, arcs and risks."""
-    found = []
-
-    def go_on(node, met, arcs):
-        if node == request.terminal:
-            metres = sum(mesh.arcs[number].metres for number in arcs)
-            found.append((metres, arcs, frozenset().union(*(mesh.arcs[number].risks for number in arcs))))
-            return
-        for number, arc in enumerate(mesh.arcs):
-            if arc.tail == node and arc.head not in met:
-                go_on(arc.head, met | {arc.head}, (*arcs, number))
-
-    go_on(request.source, {request.source}, ())
-    return sorted(found, key=lambda route: route[:2])
-
-
 def least_shared(ranking, reach, allowance):
-    """How few risks a pair shares whose main is one of the first `allowance` routes within reach; None with no route."""
-    within = [risks for metres, _, risks in ranking if metres <= reach]
+    """How little a pair shares whose main is one of the first `allowance` routes within reach; None with no route."""
+    within = [carried for metres, _, carried in ranking if metres <= reach]
     return min((len(main & standby) for main in within[:allowance] for standby in within), default=None)
 
 
@@ -434,7 +562,8 @@ class Why(unittest.TestCase):
 
     def test_the_words_for_each_outcome(self):
         for expected, written, change in (
-            ("No reach makes it fewer: nothing is shared.\n", example("A.txt"), {}),
+            ("No reach makes it fewer: the count is 0.\n", example("A.txt"), {}),
+            ("The least reach at which fewer are shared is 120,000 m, 1,000 m more: 0 then.\n", TRENCHES, {"reach": 119_000}),
             ("The least reach at which fewer are shared is 5,000 m, 1 m more: 0 then.\n", example("A.txt"), {"reach": 4999}),
             (
                 "The least reach at which fewer are shared is 5,000 m, 2,000 m more: 1 then.\n",
@@ -443,6 +572,7 @@ class Why(unittest.TestCase):
             ),
             ("The least reach with a route is 3,000 m, 1 m more.\n", example("A.txt"), {"reach": 2999}),
             ("The least reach with a route is 3,000 m, 3,000 m more.\n", example("A.txt"), {"reach": 0}),
+            ("The least reach with a route is 31 m, 31 m more.\n", MOST, {"reach": 0}),
             ("No reach brings a route: none leads from one to the other.\n", example("A.txt"), {"source": 3, "terminal": 0}),
             ("No larger reach shares fewer.\n", example("D.txt"), {}),
             ("No larger reach shares fewer.\n", HALL, {}),  # stopped, but the floor is met: no allowance helps either

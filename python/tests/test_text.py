@@ -2,15 +2,16 @@
 
 import random
 import unittest
+from dataclasses import replace
 from decimal import Decimal
 
 from feshangul import names, records, text
 from feshangul.fault import InputFault
-from feshangul.mesh import Request
+from feshangul.mesh import Arc, Request
 
-from .shared import A_HEX, EXAMPLES, example, without_comments
+from .shared import A_HEX, EXAMPLES, example, small_mesh, without_comments
 
-NUMBERED = ("A.txt", "B.txt", "C.txt", "D.txt", "E.txt")
+NUMBERED = ("A.txt", "B.txt", "C.txt", "D.txt", "E.txt", "F.txt")
 
 
 def as_bytes(mesh):
@@ -61,6 +62,10 @@ def any_spare(rng, width):
     return rng.choice((0,) * 7 + (rng.randrange(256**width),))
 
 
+def any_span(rng):
+    return rng.choice((0, 0, 1, 2, 255, 256, 65_535, rng.randrange(65_536)))
+
+
 def random_request(rng):
     source, terminal, reach, allowance = any_node(rng), any_node(rng), any_metres(rng), rng.randrange(2**32)
     low, high = any_spare(rng, 2), any_spare(rng, 4)
@@ -70,12 +75,12 @@ def random_request(rng):
 
 
 def random_arc(rng, number):
-    tail, head, metres, spare = any_node(rng), any_node(rng), any_metres(rng), any_spare(rng, 2)
+    tail, head, metres, span = any_node(rng), any_node(rng), any_metres(rng), any_span(rng)
     one_in = rng.randint(1, 64)
     risks = [risk for risk in range(64) if rng.randrange(one_in) == 0]
     line = f"{number}: {tail},{head},{metres},{{{','.join(map(str, risks))}}}"
-    line += f" spare {spare}\n" if spare else "\n"
-    return line, put(tail, 1) + put(head, 1) + put(spare, 2) + put(metres, 4) + put(sum(2**risk for risk in risks), 8)
+    line += f" span {span}\n" if span else "\n"
+    return line, put(tail, 1) + put(head, 1) + put(span, 2) + put(metres, 4) + put(sum(2**risk for risk in risks), 8)
 
 
 def random_numbered(rng, arcs):
@@ -133,11 +138,12 @@ def random_length(rng, most):
     return written_length(rng.choice((0, 999, 1000, 1001, 1200, most, *some)))
 
 
-def random_span(rng, kind, sites, risks):
+def random_span(rng, kind, sites, risks, trenches):
     # In the order of the risks' own lines, which is how they are written.
     touched = [risk for risk in risks if rng.random() < 0.2]
     tail, head = rng.sample(sites, 2)
-    return f"{kind} {tail} {head} {random_length(rng, 2_000_000)} {','.join(touched) or '-'}{random_title(rng)}\n"
+    trench = f" in {rng.choice(trenches)}" if trenches and rng.random() < 0.4 else ""
+    return f"{kind} {tail} {head} {random_length(rng, 2_000_000)} {','.join(touched) or '-'}{trench}{random_title(rng)}\n"
 
 
 def random_asked(rng, sites):
@@ -150,12 +156,15 @@ def random_named(rng, full):
     """A mesh and how many requests it has; a full one has every site, risk and arc that there may be."""
     sites = random_names(rng, 32 if full else rng.randint(2, 6))
     risks = random_names(rng, 64 if full else rng.randint(0, 6))
+    trenches = random_names(rng, 128 if full else rng.choice((0, 1, 2, 5)))
+    rng.shuffle(trenches)  # numbered as they are used, not as they are declared
     kinds = ["span"] * 50 + ["arc"] * 28 if full else [rng.choice(("span", "arc")) for _ in range(rng.randrange(12))]
     requests = rng.choice((0, 1, 1, 1, 2, 5))
     rng.shuffle(kinds)
     lines = [random_site(rng, name) for name in sites]
     lines += [f"risk {name}{random_title(rng)}\n" for name in risks]
-    lines += [random_span(rng, kind, sites, risks) for kind in kinds]
+    lines += [f"trench {name}{random_title(rng)}\n" for name in trenches]
+    lines += [random_span(rng, kind, sites, risks, trenches) for kind in kinds]
     lines += [random_asked(rng, sites) for _ in range(requests)]
     return "".join(lines), requests
 
@@ -193,18 +202,23 @@ class PlacesOfSites(unittest.TestCase):
 
 # ---- what a person may write otherwise ----
 
-STRICT = "from 0 to 3 reach 10000 allowance 1000\n0: 0,1,1000,{0,7,63}\n1: 1,3,4000,{}\n"
-NAMED = 'site A\nsite B "Bern" 46.95 7.45\nrisk R\nrisk S\nspan A B 1.2km R,S "Trunk"\nrequest A B reach 5km allowance 9\n'
+STRICT = "from 0 to 3 reach 10000 allowance 1000\n0: 0,1,1000,{0,7,63}\n1: 1,3,4000,{} span 7\n"
+NAMED = (
+    'site A\nsite B "Bern" 46.95 7.45\nrisk R\nrisk S\ntrench T "Aare"\n'
+    'span A B 1.2km R,S in T "Trunk"\narc B A 0m - in T\nrequest A B reach 5km allowance 9\n'
+)
 
 
 class FreeForms(unittest.TestCase):
     def test_spaces_comments_and_line_ends_of_a_numbered_mesh_are_free(self):
         for free in (
             "# free spaces, comments and order\r\n\r\nfrom 0 to 3 reach 10000 allowance 1000\t# request\r\n"
-            " 0 : 0 , 1 , 01000 , { 0 , 63 , 7 } # arc\n1:1,3,4000,{}",
-            "\ufefffrom 0 to 3 reach 10000 allowance 1000\n\n\n0: 0,1,1000,{7,0,63}\n# between\n1: 1,3,4000,{ }\n\n",
-            "\tfrom\t0\tto\t3\treach\t10km\tallowance\t1000\n0:\t0,1,1km,{63,7,0}\n1: 1,3,4000m,{}#\n",
-            "from 0000 to 0003 reach 000000010000 allowance 000000001000\n0: 0,1,1000,{0,7,00063}\n000000000001: 1,3,4000,{}\n",
+            " 0 : 0 , 1 , 01000 , { 0 , 63 , 7 } # arc\n1:1,3,4000,{}span 7",
+            "\ufefffrom 0 to 3 reach 10000 allowance 1000\n\n\n0: 0,1,1000,{7,0,63} span 0\n# between\n"
+            "1: 1,3,4000,{ }  span  7\n\n",
+            "\tfrom\t0\tto\t3\treach\t10km\tallowance\t1000\n0:\t0,1,1km,{63,7,0}\n1: 1,3,4000m,{}\tspan\t7#\n",
+            "from 0000 to 0003 reach 000000010000 allowance 000000001000\n"
+            "0: 0,1,1000,{0,7,00063} span 0000000\n000000000001: 1,3,4000,{} span 0000007\n",
         ):
             with self.subTest(free):
                 self.assertEqual(text.write(text.read(free, "mesh")), STRICT)
@@ -214,9 +228,10 @@ class FreeForms(unittest.TestCase):
             NAMED.replace("\n", "\r\n"),
             "\ufeff" + NAMED.rstrip("\n"),
             NAMED.replace(" ", "\t").replace("\n", '  # comment "with one quote\n\n'),
-            '#\n\nsite A\nrisk R\nrisk S\n  site B"Bern"46.95 7.45\n'
-            'span A B 1200 S , R"Trunk"\nrequest A B reach 5000 allowance 09\n',
-            'risk R\nsite A\nsite B "Bern" 46.95 7.45\nrequest A B reach 5000m allowance 9\nrisk S\nspan A B 1200m R,S "Trunk"\n',
+            '#\n\nsite A\nrisk R\nrisk S\n  site B"Bern"46.95 7.45\ntrench  T"Aare"\n'
+            'span A B 1200 S , R in  T"Trunk"\narc B A 0 -in T\nrequest A B reach 5000 allowance 09\n',
+            'risk R\nsite A\nsite B "Bern" 46.95 7.45\nrequest A B reach 5000m allowance 9\nrisk S\n'
+            'trench T "Aare"\nspan A B 1200m R,S in T "Trunk"\narc B A 0km - in T\n',
         ):
             with self.subTest(free):
                 self.assertEqual(text.write(text.read(free, "mesh")), NAMED)
@@ -260,19 +275,19 @@ class FreeForms(unittest.TestCase):
                 self.assertEqual(text.read(ends + line, "mesh").requests, (asked,))
 
     def test_words_of_the_form_may_be_names(self):
-        declared = "site reach\nsite allowance\nrisk site\n"
-        mesh = text.read(declared + "span reach allowance 5 site\nrequest allowance reach reach 9\n", "mesh")
+        declared = "site reach\nsite allowance\nrisk in\ntrench in\ntrench span\n"
+        mesh = text.read(declared + "span reach allowance 5 in in in\nrequest allowance reach reach 9\n", "mesh")
         self.assertEqual(mesh.requests, (Request(1, 0, 9, 1000),))
-        self.assertEqual(mesh.arcs[0].risks, {0})
+        self.assertEqual((mesh.arcs[0].risks, mesh.span(mesh.arcs[0].span)), ({0}, "in"))
 
     def test_a_span_is_two_arcs_and_each_knows_its_line(self):
         mesh = text.read("site A\nsite B\nrisk R\n\nspan A B 7 R\narc B A 9 -\n", "mesh")
         self.assertEqual(
-            [(a.tail, a.head, a.metres, set(a.risks), a.span, a.line) for a in mesh.arcs],
+            [(a.tail, a.head, a.metres, set(a.risks), a.span, a.cable, a.line) for a in mesh.arcs],
             [
-                (0, 1, 7, {0}, 0, 5),
-                (1, 0, 7, {0}, 0, 5),
-                (1, 0, 9, set(), 1, 6),
+                (0, 1, 7, {0}, 1, 0, 5),
+                (1, 0, 7, {0}, 1, 0, 5),
+                (1, 0, 9, set(), 0, 1, 6),
             ],
         )
 
@@ -281,15 +296,73 @@ class FreeForms(unittest.TestCase):
         risks = "".join(f"risk R{n}\n" for n in range(64))
         mesh = text.read(sites + risks + "span S0 S31 2000km R0,R63\n" * 64, "mesh")
         self.assertEqual((len(mesh.sites), len(mesh.risks), len(mesh.arcs)), (32, 64, 128))
+        self.assertEqual({arc.span for arc in mesh.arcs}, set(range(1, 65)))
+
+
+SPANS = """\
+site A
+site B
+trench T
+span A B 1 -
+arc A B 1 -
+trench U "upper"
+trench V
+arc A B 1 - in U
+span A B 1 - in T "cable"
+span A B 1 -
+arc B A 1 - in U
+span B A 1 - in T
+span A B 1 -
+"""
+
+
+class SpansByName(unittest.TestCase):
+    def test_spans_are_numbered_from_1_by_the_first_line_of_each(self):
+        mesh = text.read(SPANS, "mesh")
+        self.assertEqual([arc.span for arc in mesh.arcs], [1, 1, 0, 2, 3, 3, 4, 4, 2, 3, 3, 5, 5])
+        self.assertEqual([(t.name, t.title, t.span) for t in mesh.trenches], [("T", None, 3), ("U", "upper", 2), ("V", None, 0)])
+
+    def test_the_numbers_do_not_depend_on_where_a_trench_is_declared(self):
+        mesh = text.read(SPANS, "mesh")
+        written = text.write(mesh)
+        self.assertTrue(written.startswith('site A\nsite B\ntrench T\ntrench U "upper"\ntrench V\nspan A B 1m -\n'))
+        self.assertEqual(text.read(written, "again"), mesh)
+
+    def test_lines_that_no_text_has_are_written_so_that_the_same_arcs_lie_in_the_same_spans(self):
+        sites, none = text.read("site A\nsite B\n", "mesh"), frozenset()
+        there = Arc(0, 1, 5, none, 7, 0)
+        for arcs, written in (
+            ((there, Arc(1, 0, 5, none, 7, 0)), 'span A B 5m - "first"\n'),
+            ((there, Arc(1, 0, 6, none, 7, 0)), 'trench S7\narc A B 5m - in S7 "first"\narc B A 6m - in S7 "first"\n'),
+            ((there, Arc(1, 0, 5, none, 8, 0)), 'trench S7\ntrench S8\narc A B 5m - in S7 "first"\narc B A 5m - in S8 "first"\n'),
+            ((there, Arc(1, 0, 5, none, 0, 0)), 'trench S7\narc A B 5m - in S7 "first"\narc B A 5m - "first"\n'),
+            ((there, Arc(1, 0, 5, none, 7, 1)), 'trench S7\narc A B 5m - in S7 "first"\narc B A 5m - in S7\n'),
+            ((there,), 'trench S7\narc A B 5m - in S7 "first"\n'),
+        ):
+            with self.subTest(written):
+                mesh = replace(sites, arcs=arcs, cables=("first", None)[: 1 + arcs[-1].cable])
+                self.assertEqual(text.write(mesh), "site A\nsite B\n" + written)
+
+    def test_the_numbers_are_bytes_2_and_3_of_the_records(self):
+        table = records.put_table(text.read(SPANS, "mesh").arcs)
+        self.assertEqual([table[at : at + 2].hex() for at in range(2, 80, 16)], ["0100", "0100", "0000", "0200", "0300"])
+
+    def test_trenches_have_no_limit_but_that_of_arcs(self):
+        trenches = "".join(f"trench T{n}\n" for n in range(1000))
+        arcs = "".join(f"arc A B 1 - in T{n}\n" for n in range(999, 871, -1))
+        mesh = text.read(f"site A\nsite B\n{trenches}{arcs}", "mesh")
+        self.assertEqual([arc.span for arc in mesh.arcs], list(range(1, 129)))
+        self.assertEqual(text.read(text.write(mesh), "again"), mesh)
 
 
 # ---- what is refused ----
 
 REQUEST = "from 0 to 3 reach 10000 allowance 1000\n"
-KINDS = '"from", or one of "site", "risk", "span", "arc", "request"'
+KINDS = '"from", or one of "site", "risk", "trench", "span", "arc", "request"'
 TO_LENGTH = "expected the length from 0 to 2,000,000 m"
 TO_REACH = "expected the reach from 0 to 62,000,000 m"
 FORMS = ", as 1200, 1200m or 1.2km"
+NOW_SPAN = 'expected "span N", found "spare": these bytes of an arc are the number of its span now'
 
 BY_NUMBER = (
     ("1: expected a mesh, found the end of the file", ""),
@@ -319,7 +392,16 @@ BY_NUMBER = (
     ('2: expected a risk from 0 to 63, found "}"', REQUEST + "0: 0,1,1000,{0,}\n"),
     ("2: expected each risk once, found 5 again", REQUEST + "0: 0,1,1000,{5,0,5}\n"),
     ('2: expected "," or "}", found the end of the line', REQUEST + "0: 0,1,1000,{0\n"),
-    ('2: expected 0 as spare bytes 2-3, found "65536"', REQUEST + "0: 0,1,1000,{0} spare 65536\n"),
+    ('2: expected the span from 0 to 65,535, found "65536"', REQUEST + "0: 0,1,1000,{0} span 65536\n"),
+    ('2: expected the span from 0 to 65,535, found "-1"', REQUEST + "0: 0,1,1000,{0} span -1\n"),
+    ('2: expected the span from 0 to 65,535, found "x"', REQUEST + "0: 0,1,1000,{0} span x\n"),
+    ("2: expected the span from 0 to 65,535, found the end of the line", REQUEST + "0: 0,1,1000,{0} span\n"),
+    ('2: expected the end of the line, found ",2"', REQUEST + "0: 0,1,1000,{0} span 1,2\n"),
+    (f"2: {NOW_SPAN}", REQUEST + "0: 0,1,1000,{0} spare 7\n"),
+    (f"2: {NOW_SPAN}", REQUEST + "0: 0,1,1000,{0} spare 0\n"),
+    (f"3: {NOW_SPAN}", REQUEST + "0: 0,1,1000,{0}\n1: 0,1,1000,{} spare\n"),
+    ('1: expected 0 as spare bytes 2-3, found "65536,0"', REQUEST.rstrip() + " spare 65536,0\n"),
+    ('1: expected the end of the line, found "span"', REQUEST.rstrip() + " span 7\n"),
     ('2: expected the end of the line, found "1:"', REQUEST + "0: 0,1,1000,{0} 1: 1,3,4000,{1}\n"),
     ('131: expected arc number 129, found "x"', REQUEST + "".join(f"{n}: 0,1,1000,{{}}\n" for n in range(129)) + "x\n"),
     ('1: expected 0 as spare bytes 12-15, found "4294967296"', REQUEST.rstrip() + " spare 0,4294967296\n"),
@@ -330,7 +412,9 @@ BY_NUMBER = (
 HEAD = "site LONDON\nsite PARIS\nrisk TUNNEL\n"  # so that what follows stands on line 4
 SITE = 'expected a site that a line "site .." above declares, found'
 RISK = 'expected a risk that a line "risk .." above declares, found'
+TRENCH = 'expected a trench that a line "trench .." above declares, found'
 RISKS = 'expected risks, as CHT,PRING, or "-" for none, found'
+NAMED_KINDS = 'expected "site", "risk", "trench", "span", "arc" or "request"'
 ARCS = "expected at most 128 arcs (a span is two), found arc 129"
 NOT_CLOSED = "expected a quote at the end of the title, found the end of the line"
 LATITUDE = "expected a latitude from -90 to 90, found"
@@ -338,9 +422,27 @@ TITLE_OR_LATITUDE = "expected a title in quotes, or a latitude from -90 to 90, f
 LONGITUDE = "expected a longitude from -180 to 180, found"
 
 BY_NAME = (
-    ('4: expected "site", "risk", "span", "arc" or "request", found "link"', HEAD + "link LONDON PARIS 1 -\n"),
-    ('4: expected "site", "risk", "span", "arc" or "request", found "from"', HEAD + REQUEST),
-    ('4: expected "site", "risk", "span", "arc" or "request", found "sites"', HEAD + "sites ROME\n"),
+    (f'4: {NAMED_KINDS}, found "link"', HEAD + "link LONDON PARIS 1 -\n"),
+    (f'4: {NAMED_KINDS}, found "from"', HEAD + REQUEST),
+    (f'4: {NAMED_KINDS}, found "sites"', HEAD + "sites ROME\n"),
+    ("4: expected a trench's name, found the end of the line", HEAD + "trench\n"),
+    ('4: expected a trench\'s name, found "-"', HEAD + "trench -\n"),
+    ('5: trench "KENT" stands on line 4 already', HEAD + "trench KENT\ntrench KENT\n"),
+    ('4: expected the end of the line, found "9"', HEAD + 'trench KENT "Kent" 9\n'),
+    (f'5: {TRENCH} "DOVER"', HEAD + "trench KENT\nspan LONDON PARIS 1 - in DOVER\n"),
+    (f'5: {TRENCH} "KNET"; is "KENT" meant?', HEAD + "trench KENT\narc LONDON PARIS 1 - in KNET\n"),
+    (f'5: {TRENCH} "kent"; is "KENT" meant?', HEAD + 'trench KENT\nspan LONDON PARIS 1 TUNNEL in kent "Trunk"\n'),
+    (f'4: {TRENCH} "TUNNEL"', HEAD + "span LONDON PARIS 1 - in TUNNEL\n"),
+    (f'4: {TRENCH} "KENT"', HEAD + "span LONDON PARIS 1 - in KENT\ntrench KENT\n"),
+    ("5: expected a trench, found the end of the line", HEAD + "trench KENT\nspan LONDON PARIS 1 - in\n"),
+    ('5: expected a trench, found ""Kent""', HEAD + 'trench KENT\nspan LONDON PARIS 1 - in "Kent"\n'),
+    ('5: expected the end of the line, found ",KENT"', HEAD + "trench KENT\nspan LONDON PARIS 1 - in KENT,KENT\n"),
+    ('5: expected the end of the line, found "in"', HEAD + "trench KENT\nspan LONDON PARIS 1 - in KENT in KENT\n"),
+    ('5: expected the end of the line, found "in"', HEAD + 'trench KENT\nspan LONDON PARIS 1 - "Trunk" in KENT\n'),
+    ('5: expected the end of the line, found "inKENT"', HEAD + "trench KENT\nspan LONDON PARIS 1 - inKENT\n"),
+    (f'5: {RISKS} the end of the line', HEAD + "trench KENT\nspan LONDON PARIS 1 TUNNEL,\n"),
+    (f'5: {RISK} "in"', HEAD + "trench KENT\nspan LONDON PARIS 1 in KENT\n"),
+    ('4: expected the end of the line, found "span"', HEAD + "arc LONDON PARIS 1 - span 7\n"),
     ("4: expected a site's name, found the end of the line", HEAD + "site\n"),
     ('4: expected a risk\'s name, found "-"', HEAD + "risk -\n"),
     ('4: site "PARIS" stands on line 2 already', HEAD + "site PARIS\n"),
@@ -471,6 +573,8 @@ PIECES = (
     "\ufeff",
     "site ",
     "risk ",
+    "trench ",
+    "in ",
     "span ",
     "arc ",
     "request ",
@@ -513,6 +617,12 @@ SOUND = "from 0 to 1 reach 5 allowance 1\n"
 TWO_NAMED = text.read('site A "Aachen"\nsite B\nsite C\nrisk R "Rhine"\nrisk S\n', "names.txt")
 
 
+def with_ways_back(rng, mesh):
+    """The mesh with the way back of an arc behind it, here and there."""
+    arcs = [(a, replace(a, tail=a.head, head=a.tail)) if rng.random() < 0.5 else (a,) for a in mesh.arcs]
+    return replace(mesh, arcs=tuple(a for some in arcs for a in some))
+
+
 class NamesForBytes(RefusalTest):
     def given(self, numbered):
         return names.given(text.read(numbered, "mesh"), TWO_NAMED, "names.txt")
@@ -520,11 +630,12 @@ class NamesForBytes(RefusalTest):
     def test_arcs_that_are_each_others_way_back_in_turn_become_a_span(self):
         named = self.given(
             "from 0 to 2 reach 5000 allowance 9\n"
-            "0: 0,1,1200,{0,1}\n1: 1,0,1200,{0,1}\n"  # a span
-            "2: 0,1,1200,{0,1}\n3: 1,0,1200,{0,1}\n4: 0,1,1200,{0,1}\n"  # its like, and a third way there
+            "0: 0,1,1200,{0,1} span 9\n1: 1,0,1200,{0,1} span 9\n"  # a span
+            "2: 0,1,1200,{0,1} span 3\n3: 1,0,1200,{0,1} span 3\n4: 0,1,1200,{0,1}\n"  # its like, and a third way there
             "5: 1,2,7,{}\n6: 2,1,8,{}\n"  # two lengths
             "7: 1,2,7,{0}\n8: 2,1,7,{1}\n"  # two risks
             "9: 0,2,0,{}\n10: 0,2,0,{}\n"  # the same way twice
+            "11: 0,2,5,{}\n12: 2,0,5,{}\n"  # a way back, and whether in the same span is not known
         )
         self.assertEqual(
             text.write(named),
@@ -532,9 +643,55 @@ class NamesForBytes(RefusalTest):
                 'site A "Aachen"\nsite B\nsite C\nrisk R "Rhine"\nrisk S\n'
                 "span A B 1.2km R,S\nspan A B 1.2km R,S\narc A B 1.2km R,S\n"
                 "arc B C 7m -\narc C B 8m -\narc B C 7m R\narc C B 7m S\narc A C 0m -\narc A C 0m -\n"
+                "arc A C 5m -\narc C A 5m -\n"
                 "request A C reach 5km allowance 9\n"
             ),
         )
+
+    def test_a_span_that_a_line_of_its_own_does_not_tell_becomes_a_trench(self):
+        named = self.given(
+            "from 0 to 2 reach 5000 allowance 9\n"
+            "0: 0,1,5,{} span 700\n1: 1,0,5,{} span 700\n2: 1,2,5,{} span 700\n"  # both ways, and a third arc
+            "3: 0,1,5,{} span 8\n"  # one way
+            "4: 0,1,5,{} span 6\n5: 1,0,6,{} span 6\n"  # two lengths
+            "6: 0,2,5,{} span 5\n7: 2,0,5,{} span 4\n"  # a way back in another span
+            "8: 0,2,5,{} span 1\n9: 2,0,5,{} span 1\n"  # a span
+        )
+        written = text.write(named)
+        self.assertEqual(
+            written,
+            (
+                'site A "Aachen"\nsite B\nsite C\nrisk R "Rhine"\nrisk S\n'
+                "trench S4\ntrench S5\ntrench S6\ntrench S8\ntrench S700\n"
+                "span A B 5m - in S700\narc B C 5m - in S700\narc A B 5m - in S8\n"
+                "arc A B 5m - in S6\narc B A 6m - in S6\narc A C 5m - in S5\narc C A 5m - in S4\nspan A C 5m -\n"
+                "request A C reach 5km allowance 9\n"
+            ),
+        )
+        self.assertEqual([arc.span for arc in text.read(written, "mesh").arcs], [1, 1, 1, 2, 3, 3, 4, 5, 6, 6])
+
+    def test_trenches_are_called_as_in_the_mesh_that_has_the_names(self):
+        # There span 1 is the trench S9 and span 2 that of a line; bytes with other arcs have the same spans.
+        declared = 'site A\nsite B\ntrench S9 "Ninth"\ntrench S2\n'
+        names_of = text.read(declared + "arc A B 5 - in S9\nspan A B 6 -\n", "names.txt")
+        bytes_of = text.read(SOUND + "0: 1,0,5,{} span 2\n1: 0,1,7,{} span 1\n2: 0,1,7,{} span 9\n", "mesh")
+        self.assertEqual(
+            text.write(names.given(bytes_of, names_of, "names.txt")),
+            'site A\nsite B\ntrench S9 "Ninth"\ntrench S2\ntrench S2_\ntrench S9_\n'
+            "arc B A 5m - in S2_\narc A B 7m - in S9\narc A B 7m - in S9_\nrequest A B reach 5m allowance 1\n",
+        )
+
+    def test_500_random_tables_by_name_have_the_same_arcs_in_the_same_spans(self):
+        rng = random.Random(33)
+        named = text.read("".join(f"site N{n}\n" for n in range(8)) + "".join(f"risk R{n}\n" for n in range(64)), "names.txt")
+        for number in range(500):
+            mesh = with_ways_back(rng, small_mesh(rng))
+            back = text.read(text.write(names.given(mesh, named, "names.txt")), "back")
+            with self.subTest(number):
+                self.assertEqual([replace(a, span=0, cable=None) for a in back.arcs], [replace(a, span=0) for a in mesh.arcs])
+                renamed = {(0, 0)} | {(a.span, b.span) for a, b in zip(mesh.arcs, back.arcs)}
+                self.assertEqual(len(renamed), len({a for a, _ in renamed}))
+                self.assertEqual(len(renamed), len({b for _, b in renamed}))
 
     def test_a_mesh_without_arcs_gets_names_too(self):
         written = text.write(self.given("from 2 to 1 reach 0 allowance 1\n"))
@@ -558,7 +715,7 @@ class NamesForBytes(RefusalTest):
         refused = "what the planner refuses cannot be written by name"
         for message, numbered in (
             ("spare bytes that are not zero cannot be written by name", "from 0 to 1 reach 5 allowance 1 spare 1,0\n"),
-            ("spare bytes that are not zero cannot be written by name", SOUND + "0: 0,1,1,{} spare 1\n"),
+            ("spare bytes that are not zero cannot be written by name", "from 0 to 1 reach 5 allowance 1 spare 0,1\n"),
             (f"{refused}: source and terminal are the same node", "from 1 to 1 reach 5 allowance 1\n"),
             (f"{refused}: the reach is over 62,000,000 m", "from 0 to 1 reach 62000001 allowance 1\n"),
             (f"{refused}: the allowance is not 1 to 1,000,000", "from 0 to 1 reach 5 allowance 0\n"),

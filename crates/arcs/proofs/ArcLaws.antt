@@ -9,9 +9,9 @@ use Rattle.problem.specs.Routes.{arcAt}
 use Rattle.problem.proofs.TableLaws.{record-part, arcs-at}
 
 pub arc-read : (b : List ℕ) (s m r : ℕ) → s ≡ numberAt b 2 2 → m ≡ numberAt b 4 4 → r ≡ numberAt b 8 8
-    → _≡_ {A = Arc} (record { tail = getD b 0 0; head = getD b 1 0; spare = s; metres = m; risks = r }) (arcOf b)
+    → _≡_ {A = Arc} (record { tail = getD b 0 0; head = getD b 1 0; span = s; metres = m; risks = r }) (arcOf b)
 unfolding arcOf
-arc-read b s m r es em er = λ i. record { tail = getD b 0 0; head = getD b 1 0; spare = es i; metres = em i; risks = er i }
+arc-read b s m r es em er = λ i. record { tail = getD b 0 0; head = getD b 1 0; span = es i; metres = em i; risks = er i }
 
 pub arc-part : (table : List ℕ) (k : ℕ) → 16 * k + 16 ≤ length table
     → arcOf (take (16 * k + 16 - 16 * k) (drop (16 * k) table)) ≡ arcAt (arcsOf table) k

@@ -18,7 +18,7 @@ pub fn read_arc(bytes: &[u8]) -> Arc
     Arc {
         tail: bytes[0],
         head: bytes[1],
-        spare: octets::number2(bytes, 2),
+        span: octets::number2(bytes, 2),
         metres: octets::number4(bytes, 4),
         risks: octets::number8(bytes, 8),
     }
@@ -49,9 +49,6 @@ pub fn fault(a: Arc) -> Fault
     }
     if MOST_ARC_METRES < a.metres {
         return Fault::Length;
-    }
-    if a.spare != 0 {
-        return Fault::Spare;
     }
     Fault::Sound
 }

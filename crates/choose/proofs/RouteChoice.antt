@@ -19,7 +19,7 @@ use Rattle.laws.proofs.SortLaws.{place-unique}
 use Rattle.laws.proofs.SetLaws.{digit}
 use Rattle.problem.specs.declared.Arc.{Arc}
 use Rattle.problem.specs.declared.Exposure.{Exposure}
-use Rattle.problem.specs.Table.{mostShared, mostArcs, mostReach}
+use Rattle.problem.specs.Table.{hazards, mostArcs, mostReach}
 use Rattle.problem.specs.Exposures.{toNothing, sharing}
 use Rattle.problem.specs.Routes.{Mesh, paths, Route, routeOf, routesFrom, metresOf, within, precedes, ranking, count, shorter}
 use Rattle.problem.specs.Pairs.{Pair, pair, noRoute, Step, sharedCount, total, every, someAt, best}
@@ -125,7 +125,7 @@ module _ (m : Mesh) (near : m .reach ≤ mostReach) where
     pub y-range : y ≤ mostReach
     y-range = low (b .standby) standby-in
 
-    pub n-range : n ≤ mostShared
+    pub n-range : n ≤ hazards
     unfolding sharedCount
     n-range = sharing-le (b .main .exposure) (b .standby .exposure)
 

@@ -5,7 +5,7 @@ use mathlib.Core.Path.{_≡_}
 use lib.Dec.{eqb}
 use lib.ListN.{length, getD}
 use Rattle.laws.specs.Choosing.{if_then_else_}
-use Rattle.problem.specs.Table.{mostShared, mostReach, mostAllowance}
+use Rattle.problem.specs.Table.{hazards, mostReach, mostAllowance}
 use Rattle.problem.specs.Routes.{Route, count, shorter}
 use Rattle.problem.specs.Pairs.{noRoute, every, best, ranked, verdict}
 use Rattle.keys.specs.Keys.{standbyKey, pairKey, keyOf, sharedOf, totalOf, mainOf}
@@ -29,7 +29,7 @@ pub record Readable (key : ℕ) : Type 0 where
   pub shared : ℕ
   pub main : ℕ
   pub standby : ℕ
-  pub shared-range : shared ≤ mostShared
+  pub shared-range : shared ≤ hazards
   pub main-range : main ≤ mostReach
   pub standby-range : standby ≤ mostReach
   pub is : key ≡ pairKey shared (main + standby) main

@@ -5,7 +5,7 @@ ghost use mathlib.Core.Path.{_≡_};
 ghost use mathlib.Core.Bool.{true};
 ghost use Prim.Native.Nat.{_+_, _≤_, _<_};
 ghost use lib.ListN.{length};
-ghost use Rattle.problem.specs.Table.{mostShared};
+ghost use Rattle.problem.specs.Table.{hazards};
 ghost use Rattle.net.specs.Net.{Net, meshIn};
 ghost use Rattle.standby.specs.Standby.{leastKey};
 ghost use Rattle.standby.specs.Ahead.{quest, NoneBelow, leastOf};
@@ -112,7 +112,7 @@ fn leave_out(
     bound: u64,
     r: u8,
 ) -> Exposure
-    requires { ⌜ Net (now net) × (coresFrom ≤ length (now store)) × (r < mostShared) × NoneBelow (quest (meshIn (now net)) core nodes) bound ⌝ }
+    requires { ⌜ Net (now net) × (coresFrom ≤ length (now store)) × (r < hazards) × NoneBelow (quest (meshIn (now net)) core nodes) bound ⌝ }
     ensures holds { λ o. ⌜ NoneBelow (quest (meshIn (now (net .entry))) o nodes) bound ⌝ }
     ensures kept { λ _. ⌜ CoresKept (now (store .entry)) (now (store .exit)) ⌝ }
 {
@@ -136,7 +136,7 @@ fn smaller_core(net: &[u64], store: &mut [u64], main: Exposure, nodes: u64, boun
 {
     let mut core = main;
     let mut r: u8 = 0;
-    while r < problem::MOST_SHARED as u8 {
+    while r < problem::HAZARDS {
         core = leave_out(net, store, core, nodes, bound, r);
         r += 1;
     }

@@ -7,16 +7,14 @@ ghost use mathlib.Core.Path.{_≡_};
 ghost use mathlib.Core.Bool.{true};
 ghost use Prim.Native.Nat.{_+_, _≤_, _<_, max};
 ghost use lib.ListN.{length};
-ghost use Rattle.problem.specs.Table.{lastNode, arcsOf, allSound, mostShared};
+ghost use Rattle.problem.specs.Table.{lastNode, arcsOf, allSound, hazards};
 ghost use Rattle.problem.specs.Exposures.{toNothing};
 ghost use Rattle.problem.specs.Routes.{ranking};
 ghost use Rattle.problem.specs.Pairs.{onEvery};
-ghost use Rattle.problem.specs.Reply.{meshOf, Checked};
+ghost use Rattle.problem.specs.Reply.{meshOver, Checked};
 ghost use Rattle.side.specs.Side.{SideTable};
 ghost use Rattle.floor.specs.Clearing.{Rounded, Finished};
 ghost use Rattle.floor.specs.Floor.{narrowed, Asked};
-
-const MOST_SHARED: u8 = problem::MOST_SHARED as u8;
 
 // A way without loops has at most 31 arcs, so that 31 rounds clear what can be cleared and one more clears nothing. No promise rests on it: the
 // bound only makes it plain that the rounds end.
@@ -104,7 +102,7 @@ fn round(table: &[u8], reach: u32, from: Side) -> Cleared
 fn clear(table: &[u8], q: Request, plain: Side) -> Known
     requires { ⌜ Checked (now table) q ⌝ }
     requires { ⌜ SideTable (arcsOf (now table)) (q .terminal) toNothing plain ⌝ }
-    ensures { λ o. ⌜ Finished (meshOf (now (table .entry)) q) plain (o .side) (o .sure) ⌝ }
+    ensures { λ o. ⌜ Finished (meshOver (arcsOf (now (table .entry))) q) plain (o .side) (o .sure) ⌝ }
 {
     let nothing = exposure::nothing();
     let mut s = plain;
@@ -152,9 +150,9 @@ fn narrow(left: Exposure, s: Side, q: Request) -> Exposure
 
 // What is left once risk r of it is asked about: a way within reach that is free of r clears r, and all that it is not exposed to.
 fn ask(table: &[u8], q: Request, left: Exposure, r: u8) -> Exposure
-    requires { ⌜ r < mostShared ⌝ }
+    requires { ⌜ r < hazards ⌝ }
     requires { ⌜ Checked (now table) q ⌝ }
-    ensures { λ o. ⌜ Asked (meshOf (now (table .entry)) q) left r o ⌝ }
+    ensures { λ o. ⌜ Asked (meshOver (arcsOf (now (table .entry))) q) left r o ⌝ }
 {
     if !exposure::is_exposed(left, r) {
         return left;
@@ -169,7 +167,7 @@ fn ask(table: &[u8], q: Request, left: Exposure, r: u8) -> Exposure
 pub fn common_exposure(table: &[u8], q: Request, side: Side) -> Exposure
     requires { ⌜ Checked (now table) q ⌝ }
     requires { ⌜ SideTable (arcsOf (now table)) (q .terminal) toNothing side ⌝ }
-    ensures { λ o. ⌜ o ≡ onEvery (ranking (meshOf (now (table .entry)) q)) ⌝ }
+    ensures { λ o. ⌜ o ≡ onEvery (ranking (meshOver (arcsOf (now (table .entry))) q)) ⌝ }
 {
     let known = clear(table, q, side);
     let mut left = narrow(exposure::all(), known.side, q);
@@ -177,7 +175,7 @@ pub fn common_exposure(table: &[u8], q: Request, side: Side) -> Exposure
         return left;
     }
     let mut r: u8 = 0;
-    while r < MOST_SHARED {
+    while r < problem::HAZARDS {
         left = ask(table, q, left, r);
         r = r + 1;
     }

@@ -6,7 +6,7 @@ use Prim.Native.Nat.{ℕ, _+_, _*_, _-_, _/_, _%_, _^_, _≤_, _<_}
 use native.Mathlib.Omega.{arith}
 use lib.Dec.{ltb}
 use borrow.Author.Tests.{ltb-true, ltb-false, lt-ltb, le-ltb}
-use Rattle.problem.specs.Table.{mostShared, mostReach}
+use Rattle.problem.specs.Table.{hazards, mostReach}
 use Rattle.keys.specs.Keys.{standbyKey, OfStandby, noStandby, raised, pairKey, sharedOf, totalOf, mainOf, boundFor, pairOf}
 
 -- more shared and more metres make no smaller key
@@ -20,7 +20,7 @@ unfolding standbyKey raised
 raised-more bound metres = omega arith
 
 -- the shared count and the metres of a standby's key are in their ranges
-pub standby-parts : {key : ℕ} → OfStandby key → (key / 2 ^ 32 ≤ mostShared) × (key % 2 ^ 32 ≤ mostReach)
+pub standby-parts : {key : ℕ} → OfStandby key → (key / 2 ^ 32 ≤ hazards) × (key % 2 ^ 32 ≤ mostReach)
 unfolding standbyKey
 standby-parts {key} o =
     let q : key / 4294967296 ≡ o .shared = omega (arith, o .is, o .metres-range) in

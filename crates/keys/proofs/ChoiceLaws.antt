@@ -13,7 +13,7 @@ use Rattle.laws.specs.Choosing.{lexBy}
 use Rattle.laws.proofs.ListLaws.{mem-place, take-place, getD-take-mem}
 use Rattle.laws.proofs.OrderLaws.{lex-false, lex-eq}
 use Rattle.laws.proofs.SortLaws.{Strict}
-use Rattle.problem.specs.Table.{mostShared, mostReach}
+use Rattle.problem.specs.Table.{hazards, mostReach}
 use Rattle.problem.specs.Routes.{Mesh, Route, routeOf, rankKey, precedes, ranking}
 use Rattle.problem.specs.Pairs.{Pair, pair, sharedCount, total, judgeKey, judged, NoWorse, noRoute, someAt, best}
 use Rattle.problem.proofs.ExposureLaws.{sharing-le}
@@ -105,7 +105,7 @@ pub keyOf-below : (p : Pair) → Fits p → keyOf p < noKey
 unfolding keyOf pairKey sharedCount
 keyOf-below p f = omega (arith, f .total-fits, f .main-fits, sharing-le (p .main .exposure) (p .standby .exposure))
 
-pub noKey-shared : mostShared < sharedOf noKey
+pub noKey-shared : hazards < sharedOf noKey
 unfolding sharedOf
 noKey-shared = omega arith
 

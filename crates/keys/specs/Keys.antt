@@ -3,7 +3,7 @@ use Prim.Native.Nat.{ℕ, _+_, _*_, _-_, _/_, _%_, _^_, _≤_, max}
 use mathlib.Core.Path.{_≡_}
 use lib.Dec.{ltb}
 use Rattle.laws.specs.Choosing.{if_then_else_}
-use Rattle.problem.specs.Table.{mostShared, mostReach}
+use Rattle.problem.specs.Table.{hazards, mostReach}
 use Rattle.problem.specs.Pairs.{Pair, sharedCount, total}
 
 -- a standby of a given main: shared count, then metres
@@ -14,13 +14,13 @@ standbyKey shared metres = shared * 2 ^ 32 + metres
 pub record OfStandby (key : ℕ) : Type 0 where
   pub shared : ℕ
   pub metres : ℕ
-  pub shared-range : shared ≤ mostShared
+  pub shared-range : shared ≤ hazards
   pub metres-range : metres ≤ mostReach
   pub is : key ≡ standbyKey shared metres
 
 -- more than the key of any of them
 abbrev pub noStandby : ℕ
-noStandby = (mostShared + 1) * 2 ^ 32
+noStandby = (hazards + 1) * 2 ^ 32
 
 -- a bound with at least so many metres: where no standby is shorter, no key lies between the two
 unfoldable pub raised : ℕ → ℕ → ℕ
@@ -45,7 +45,7 @@ mainOf key = key % 2 ^ 26
 
 -- more than the key of any pair
 abbrev pub noKey : ℕ
-noKey = (mostShared + 1) * 2 ^ 53
+noKey = (hazards + 1) * 2 ^ 53
 
 -- what a number of 64 bits has room for as a shared count
 abbrev pub sharedRoom : ℕ

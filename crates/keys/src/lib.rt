@@ -11,7 +11,7 @@ const TOTAL_UNIT: u64 = 67108864;
 const TOTAL_LIMIT: u64 = 134217728;
 
 // More than the key of any pair.
-pub const NO_KEY: u64 = (problem::MOST_SHARED + 1) * TOTAL_LIMIT * TOTAL_UNIT;
+pub const NO_KEY: u64 = (problem::HAZARDS as u64 + 1) * TOTAL_LIMIT * TOTAL_UNIT;
 
 // What the key of a pair says: the shared count, the total, the main's metres.
 pub fn shared_of(key: u64) -> u64

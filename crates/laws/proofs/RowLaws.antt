@@ -49,6 +49,12 @@ numbers-out k (suc n) {x} m = go (List·Memᴰ·cases-cons m) (numbers-out (suc 
     go (inl e) f = (omega arith, omega arith)
     go (inr q) f = let p = f q in (omega (arith, p .0), omega (arith, p .1))
 
+pub numbers-at : (k n i : ℕ) → i < n → getD (numbersFrom k n) i 0 ≡ k + i
+unfolding numbersFrom
+numbers-at k zero i h = absurd (not-suc-le-zero h)
+numbers-at k (suc n) zero h = omega arith
+numbers-at k (suc n) (suc i) h = let next : suc k + i ≡ k + suc i = omega arith in numbers-at (suc k) n i (le-of-suc-le-suc h) ∙ next
+
 pub numbers-rise : (k n : ℕ) → Pairwise _<_ (numbersFrom k n)
 unfolding numbersFrom
 numbers-rise k zero = Pairwise.none

@@ -128,6 +128,30 @@ unfolding onesIn
 ones-le zero x = le-refl 0
 ones-le (suc d) x = omega (arith, ones-le d (x / 2))
 
+-- of two sets together, no more than of both
+pub ones-or : (d x y : ℕ) → onesIn d (bitOr x y) ≤ onesIn d x + onesIn d y
+unfolding onesIn
+ones-or zero x y = omega arith
+ones-or (suc d) x y =
+    let half : bitOr x y / 2 ≡ bitOr (x / 2) (y / 2) = or-shr x y 1 in
+    let low : bitOr x y % 2 ≡ max (x % 2) (y % 2) = rw (← bit-zero (bitOr x y), ← bit-zero x, ← bit-zero y) (bit-or x y 0) in
+    rw (half, low) (omega (arith, ones-or d (x / 2) (y / 2)))
+
+pub ones-empty : (d : ℕ) → onesIn d 0 ≡ 0
+unfolding onesIn
+ones-empty zero = refl
+ones-empty (suc d) = omega (arith, ones-empty d)
+
+-- of one element, at most one
+pub ones-single : (d k : ℕ) → onesIn d (2 ^ k) ≤ 1
+unfolding onesIn
+ones-single zero k = omega arith
+ones-single (suc d) zero = omega (arith, ones-empty d)
+ones-single (suc d) (suc k) =
+    let half : 2 ^ suc k / 2 ≡ 2 ^ k = rw pow-suc (omega arith) in
+    let even : 2 ^ suc k % 2 ≡ 0 = rw pow-suc (omega arith) in
+    rw (half, even) (omega (arith, ones-single d k))
+
 -- at a width that holds the set, the count by width is the language's count of ones
 pub ones-at : (d s : ℕ) → s < 2 ^ d → onesIn d s ≡ ones s
 unfolding onesIn ones

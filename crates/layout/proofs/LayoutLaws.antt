@@ -13,13 +13,13 @@ use Rattle.problem.specs.declared.Request.{Request}
 use Rattle.problem.specs.Table.{mostInTable, lastNode, arcsOf}
 use Rattle.problem.specs.Exposures.{toNothing, ofArc}
 use Rattle.problem.specs.Routes.{Mesh, arcAt, metresOf, exposureOf, Way}
-use Rattle.problem.specs.Reply.{meshOf, Checked}
+use Rattle.problem.specs.Reply.{meshOver, Checked}
 use Rattle.problem.proofs.ExposureLaws.{disjoint-nothing}
 use Rattle.problem.proofs.TableLaws.{arcs-length, sound-at}
 use Rattle.side.specs.declared.Side.{Side}
 use Rattle.side.specs.Side.{reachedAt, metresAt, SideTable}
 use Rattle.chain.specs.Chain.{Chain}
-use Rattle.net.specs.Net.{metresFrom, headsFrom, nextFrom, restFrom, firstFrom, lowerFrom, arcCountAt, doorCountAt, doorsFrom, netSize, wordAt, arcsIn, meshIn, exposedTo, DoorWith, Chained}
+use Rattle.net.specs.Net.{metresFrom, headsFrom, nextFrom, restFrom, lowFrom, highFrom, firstFrom, lowerFrom, arcCountAt, doorCountAt, doorsFrom, netSize, wordAt, arcsIn, meshIn, exposureIn, doorArc, IsDoor, Chained}
 use Rattle.net.proofs.NetLaws.{arcs-count, arc-is}
 use Rattle.layout.specs.Spread.{Spread}
 use Rattle.layout.specs.Layout.{arcColumn, ArcsLaid, nodeColumn, NodesLaid, requestWords, lowerOf, Doors, DoorsLaid, LaidOut}
@@ -53,7 +53,7 @@ module _ {arcs : List Arc} {terminal : ℕ} {side : Side} (table : SideTable arc
 -- ---- doors
 
 pub doors-none : (arcs : List Arc) (terminal : ℕ) (before : List ℕ) → Doors 0 arcs terminal 0 before before
-doors-none arcs terminal before = record { size = refl; few = omega arith; here = λ k h. absurd (omega arith); elsewhere = λ i h. refl }
+doors-none arcs terminal before = record { size = refl; few = omega arith; here = λ k h. absurd (omega arith); inside = λ j h. absurd (omega arith); elsewhere = λ i h. refl }
 
 module _ {n : ℕ} {arcs : List Arc} {terminal count : ℕ} {before after : List ℕ} (d : Doors n arcs terminal count before after) where
   -- an arc that leads elsewhere
@@ -62,12 +62,13 @@ module _ {n : ℕ} {arcs : List Arc} {terminal count : ℕ} {before after : List
     size = d .size;
     few = omega (arith, d .few);
     here = λ k h e. elim (ℕ-discrete k n) [ yes q ↦ absurd (off (rw q at e)) | no m ↦ d .here k (omega arith) e ];
+    inside = λ j h. omega (arith, d .inside j h);
     elsewhere = d .elsewhere;
   }
 
   -- one more door, written behind the others
-  pub doors-more : {risks : ℕ} → risks ≡ ofArc (arcAt arcs n) .risks → doorsFrom + count < length before → Doors (n + 1) arcs terminal (count + 1) before (set after (doorsFrom + count) risks)
-  doors-more {risks} r inside = record {
+  pub doors-more : doorsFrom + count < length before → Doors (n + 1) arcs terminal (count + 1) before (set after (doorsFrom + count) n)
+  doors-more room = record {
     size = simp length-set (d .size);
     few = omega (arith, d .few);
     here = λ k h e. elim (ℕ-discrete k n) [
@@ -75,26 +76,33 @@ module _ {n : ℕ} {arcs : List Arc} {terminal count : ℕ} {before after : List
           record {
             place = count;
             inside = omega arith;
-            is = ap exposedTo (getD-set-same after (doorsFrom + count) risks 0 (omega (arith, d .size)) ∙ r) ∙ ap (λ (x : ℕ). ofArc (arcAt arcs x)) (sym q);
+            is = own ∙ sym q;
           }
       | no m ↦
           let w = d .here k (omega arith) e in
           record {
             place = w .place;
             inside = omega (arith, w .inside);
-            is = ap exposedTo (getD-set-other after (doorsFrom + count) (doorsFrom + w .place) risks 0 (λ q. omega (arith, w .inside))) ∙ w .is;
+            is = other (w .place) (w .inside) ∙ w .is;
           }
     ];
-    elsewhere = λ i h. getD-set-other after (doorsFrom + count) i risks 0 (λ q. omega arith) ∙ d .elsewhere i h;
+    inside = λ j h. elim (ℕ-discrete j count) [ yes q ↦ omega (arith, ap (doorArc (set after (doorsFrom + count) n)) q, own) | no m ↦ omega (arith, other j (omega arith), d .inside j (omega arith)) ];
+    elsewhere = λ i h. getD-set-other after (doorsFrom + count) i n 0 (λ q. omega arith) ∙ d .elsewhere i h;
   }
+    where
+      own : doorArc (set after (doorsFrom + count) n) count ≡ n
+      own = getD-set-same after (doorsFrom + count) n 0 (omega (arith, d .size))
+
+      other : (j : ℕ) → j < count → doorArc (set after (doorsFrom + count) n) j ≡ doorArc after j
+      other j h = getD-set-other after (doorsFrom + count) (doorsFrom + j) n 0 (λ q. omega arith)
 
 -- ---- all words
 
-fields-say : (a : Arc) {rest head metres risks : ℕ} → a .tail ≤ lastNode → rest ≡ a .tail + 256 * a .spare → head ≡ a .head → metres ≡ a .metres → risks ≡ a .risks
-    → record { tail = rest % 256; head = head; spare = rest / 256; metres = metres; risks = risks } ≡ a
+fields-say : (a : Arc) {rest head metres risks : ℕ} → a .tail ≤ lastNode → rest ≡ a .tail + 256 * a .span → head ≡ a .head → metres ≡ a .metres → risks ≡ a .risks
+    → record { tail = rest % 256; head = head; span = rest / 256; metres = metres; risks = risks } ≡ a
 fields-say a {rest} low e h m r =
     let t : rest % 256 ≡ a .tail = omega arith in
-    let s : rest / 256 ≡ a .spare = omega arith in
+    let s : rest / 256 ≡ a .span = omega arith in
     rw (t, s, h, m, r)
 
 module _ {table : List ℕ} {q : Request} {side : Side} {doors : ℕ} {chain empty with-arcs with-nodes with-doors net : List ℕ}
@@ -102,7 +110,7 @@ module _ {table : List ℕ} {q : Request} {side : Side} {doors : ℕ} {chain emp
     (of-arcs : ArcsLaid (arcsOf table) chain empty with-arcs)
     (of-nodes : NodesLaid chain side with-arcs with-nodes)
     (of-doors : DoorsLaid (arcsOf table) (q .terminal) doors with-nodes with-doors)
-    (of-request : Spread 5 (requestWords (meshOf table q) doors) arcCountAt 1 with-doors net) where
+    (of-request : Spread 5 (requestWords (meshOver (arcsOf table) q) doors) arcCountAt 1 with-doors net) where
   abbrev arcs : List Arc
   arcs = arcsOf table
 
@@ -112,7 +120,7 @@ module _ {table : List ℕ} {q : Request} {side : Side} {doors : ℕ} {chain emp
   few : length arcs ≤ mostInTable
   few = omega (arith, arcs-length table, checked .few-bytes)
 
-  arc-word : (i k j : ℕ) → i ≡ 0 + k + metresFrom * j → k < length arcs → j < 5 → wordAt net i ≡ getD (arcColumn arcs chain k) j 0
+  arc-word : (i k j : ℕ) → i ≡ 0 + k + metresFrom * j → k < length arcs → j < 7 → wordAt net i ≡ getD (arcColumn arcs chain k) j 0
   arc-word i k j e h l =
       of-request .elsewhere i (λ x m q. omega (arith, few))
       ∙ of-doors .elsewhere i (omega (arith, few))
@@ -126,10 +134,21 @@ module _ {table : List ℕ} {q : Request} {side : Side} {doors : ℕ} {chain emp
   doors-count : wordAt net doorCountAt ≡ doors
   doors-count = of-request .here 4 (omega arith)
 
-  door-word : (k : ℕ) → k < length arcs → arcAt arcs k .head ≡ terminal → DoorWith (ofArc (arcAt arcs k)) (wordAt net doorCountAt) net
+  door-kept : (j : ℕ) → doorArc net j ≡ doorArc with-doors j
+  door-kept j = of-request .elsewhere (doorsFrom + j) (λ x m q. omega arith)
+
+  door-word : (k : ℕ) → k < length arcs → arcAt arcs k .head ≡ terminal → IsDoor k (wordAt net doorCountAt) net
   door-word k h e =
       let w = of-doors .here k h e in
-      record { place = w .place; inside = omega (arith, w .inside, doors-count); is = ap exposedTo (of-request .elsewhere (doorsFrom + w .place) (λ x m q. omega arith)) ∙ w .is }
+      record { place = w .place; inside = omega (arith, w .inside, doors-count); is = door-kept (w .place) ∙ w .is }
+
+  exposure-word : (k : ℕ) → k < length arcs → exposureIn net k ≡ ofArc (arcAt arcs k)
+  unfolding ofArc
+  exposure-word k h =
+      let risks = arc-word k k 0 (omega arith) h (omega arith) in
+      let low = arc-word (lowFrom + k) k 5 (omega arith) h (omega arith) in
+      let high = arc-word (highFrom + k) k 6 (omega arith) h (omega arith) in
+      λ i. record { risks = risks i; low = low i; high = high i }
 
   lower-word : (v : ℕ) → v ≤ lastNode → wordAt net (lowerFrom + v) ≡ lowerAt side v
   lower-word v h = node-word (lowerFrom + v) v 1 (omega arith) h (omega arith)
@@ -150,10 +169,10 @@ module _ {table : List ℕ} {q : Request} {side : Side} {doors : ℕ} {chain emp
   says-arcs : arcsIn net ≡ arcs
   says-arcs = ext-getD (arcAt [] 0) (arcsIn net) arcs says-count (λ k h. says-arc k (omega (arith, says-count)))
 
-  says-mesh : meshIn net ≡ meshOf table q
+  says-mesh : meshIn net ≡ meshOver (arcsOf table) q
   says-mesh = rw (says-arcs, of-request .here 1 (omega arith), of-request .here 2 (omega arith), of-request .here 3 (omega arith))
 
-  hang-together : Chained (meshOf table q) net
+  hang-together : Chained (meshOver (arcsOf table) q) net
   hang-together = record {
     size = of-request .size ∙ of-doors .size ∙ of-nodes .size ∙ of-arcs .size ∙ size;
     few = few;
@@ -167,11 +186,13 @@ module _ {table : List ℕ} {q : Request} {side : Side} {doors : ℕ} {chain emp
     lower = λ v h w. rw (lower-word v h) (lower-least sides v w);
     lower-small = λ v h. rw (lower-word v h) (lower-low sides v);
     lower-terminal = lower-word terminal (checked .terminal-node) ∙ lower-reached sides terminal (sides .entries .terminal-reached) ∙ sides .entries .terminal-metres;
+    exposure = exposure-word;
     few-doors = omega (arith, doors-count, of-doors .few, few);
     door = door-word;
+    door-inside = λ j h. omega (arith, door-kept j, of-doors .inside j (omega (arith, doors-count)));
   }
 
-  pub laid-out : LaidOut (meshOf table q) side net
+  pub laid-out : LaidOut (meshOver (arcsOf table) q) side net
   laid-out = record {
     words = subst (λ (m : Mesh). Chained m net) (sym says-mesh) hang-together;
     mesh-is = says-mesh;

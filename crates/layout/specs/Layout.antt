@@ -12,12 +12,12 @@ use Rattle.problem.specs.Routes.{Mesh, arcAt}
 use Rattle.side.specs.declared.Side.{Side}
 use Rattle.side.specs.Side.{reachedAt, metresAt}
 use Rattle.chain.specs.Chain.{firstIn, nextIn}
-use Rattle.net.specs.Net.{firstFrom, lowerFrom, doorsFrom, wordAt, meshIn, DoorWith, Net}
+use Rattle.net.specs.Net.{firstFrom, lowerFrom, doorsFrom, wordAt, meshIn, doorArc, IsDoor, Net}
 use Rattle.layout.specs.Spread.{Columns}
 
--- the words of an arc, the last of which holds its tail and its spare field; those of arc k; those of all arcs are written
+-- the words of an arc, one of which holds its tail and its span; those of arc k; those of all arcs are written
 abbrev pub arcWords : Arc → (next : ℕ) → List ℕ
-arcWords a next = a .risks ∷ a .metres ∷ a .head ∷ next ∷ (a .tail + 256 * a .spare) ∷ []
+arcWords a next = a .risks ∷ a .metres ∷ a .head ∷ next ∷ (a .tail + 256 * a .span) ∷ ofArc a .low ∷ ofArc a .high ∷ []
 
 abbrev pub arcColumn : List Arc → (chain : List ℕ) → ℕ → List ℕ
 arcColumn arcs chain k = arcWords (arcAt arcs k) (nextIn chain k)
@@ -46,11 +46,12 @@ NodesLaid chain side before after = Columns nodes (nodeColumn chain side) firstF
 abbrev pub requestWords : Mesh → (doors : ℕ) → List ℕ
 requestWords m doors = length (m .arcs) ∷ m .terminal ∷ m .reach ∷ m .source ∷ doors ∷ []
 
--- each of the first n arcs that leads into the terminal is among the doors, of which there are so many; all words before the doors' are as before
+-- each of the first n arcs that leads into the terminal is among the doors, of which there are so many, and each door is one of these arcs; all words before the doors' are as before
 pub record Doors (n : ℕ) (arcs : List Arc) (terminal count : ℕ) (before after : List ℕ) : Type 0 where
   pub size : length after ≡ length before
   pub few : count ≤ n
-  pub here : (k : ℕ) → k < n → arcAt arcs k .head ≡ terminal → DoorWith (ofArc (arcAt arcs k)) count after
+  pub here : (k : ℕ) → k < n → arcAt arcs k .head ≡ terminal → IsDoor k count after
+  pub inside : (j : ℕ) → j < count → doorArc after j < n
   pub elsewhere : (i : ℕ) → i < doorsFrom → wordAt after i ≡ wordAt before i
 
 abbrev pub DoorsLaid : List Arc → (terminal count : ℕ) → (before after : List ℕ) → Type 0

@@ -7,7 +7,7 @@ ghost use Prim.Native.Nat.{ℕ, _+_, _*_, _≤_, _<_};
 ghost use lib.ListN.{length};
 ghost use Rattle.problem.specs.Table.{mostTableBytes, arcsOf};
 ghost use Rattle.problem.specs.Exposures.{toNothing};
-ghost use Rattle.problem.specs.Reply.{meshOf, Checked};
+ghost use Rattle.problem.specs.Reply.{meshOver, Checked};
 ghost use Rattle.side.specs.Side.{SideTable};
 ghost use Rattle.chain.specs.Chain.{chainSize};
 ghost use Rattle.net.specs.Net.{netSize};
@@ -51,8 +51,17 @@ fn lay_arcs(net: &mut [u64], table: &[u8], chain: &[u8])
     while k < n {
         let a = arcs::arc_at(table, k);
         let next = chain::next(chain, k) as u64;
-        let rest = a.tail as u64 + 256 * (a.spare as u64);
-        let fields = [a.risks, a.metres as u64, a.head as u64, next, rest];
+        let rest = a.tail as u64 + 256 * (a.span as u64);
+        let e = exposure::of_arc(a);
+        let fields = [
+            a.risks,
+            a.metres as u64,
+            a.head as u64,
+            next,
+            rest,
+            e.low,
+            e.high,
+        ];
         spread(net, k, ARC_STEP, &fields);
         k += 1;
     }
@@ -85,7 +94,7 @@ fn lay_nodes(net: &mut [u64], chain: &[u8], side: Side)
     }
 }
 
-// Writes what each door, an arc into the terminal, is exposed to, and says how many doors there are.
+// Writes the number of each door, an arc into the terminal, and says how many doors there are.
 fn lay_doors(net: &mut [u64], table: &[u8], q: Request) -> usize
     requires { ⌜ (length (now net) ≡ netSize) × (length (now table) ≤ mostTableBytes) ⌝ }
     ensures { λ r. ⌜ DoorsLaid (arcsOf (now (table .entry))) (q .terminal) r (now (net .entry)) (now (net .exit)) ⌝ }
@@ -94,10 +103,11 @@ fn lay_doors(net: &mut [u64], table: &[u8], q: Request) -> usize
     let mut count = 0;
     let mut k = 0;
     while k < arc_count {
-        let a = arcs::arc_at(table, k);
+        let door = k;
+        let a = arcs::arc_at(table, door);
         k += 1;
         if a.head as u32 == q.terminal {
-            net[DOORS_FROM + count] = exposure::risks(exposure::of_arc(a));
+            net[DOORS_FROM + count] = door as u64;
             count += 1;
         }
     }
@@ -109,7 +119,7 @@ pub fn lay_out(net: &mut [u64], table: &[u8], q: Request, side: Side)
     requires { ⌜ Checked (now table) q ⌝ }
     requires { ⌜ SideTable (arcsOf (now table)) (q .terminal) toNothing side ⌝ }
     requires { ⌜ length (now net) ≡ netSize ⌝ }
-    ensures { λ _. ⌜ LaidOut (meshOf (now (table .entry)) q) side (now (net .exit)) ⌝ }
+    ensures { λ _. ⌜ LaidOut (meshOver (arcsOf (now (table .entry))) q) side (now (net .exit)) ⌝ }
 {
     let chain = chain::chained(table);
     let count = table.len() / ARC_BYTES;

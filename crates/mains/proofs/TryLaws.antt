@@ -8,7 +8,7 @@ use native.Mathlib.Omega.{arith}
 use lib.Dec.{leb, ltb}
 use borrow.Author.Tests.{leb-true, ltb-true, ltb-false}
 use Rattle.laws.specs.Choosing.{if_then_else_}
-use Rattle.problem.specs.Table.{mostShared, mostReach}
+use Rattle.problem.specs.Table.{hazards, mostReach}
 use Rattle.problem.specs.Exposures.{sharing}
 use Rattle.problem.specs.Routes.{Mesh, paths}
 use Rattle.problem.proofs.ExposureLaws.{sharing-le}
@@ -26,10 +26,10 @@ module _ (m : Mesh) (main : Behind) (best : ℕ) (near : m .reach ≤ mostReach)
   -- the least key of the standbys so far, and the best pair's key so far
   pub data Beside (key pair : ℕ) : Type 0 where
     kept : key ≡ boundFor best x → pair ≡ best → Beside key pair
-    better : (n y : ℕ) → n ≤ mostShared → y ≤ m .reach → key ≡ standbyKey n y → pair ≡ pairKey n (x + y) x → key < boundFor best x → Beside key pair
+    better : (n y : ℕ) → n ≤ hazards → y ≤ m .reach → key ≡ standbyKey n y → pair ≡ pairKey n (x + y) x → key < boundFor best x → Beside key pair
 
   -- one more standby
-  step : (n y key pair : ℕ) → n ≤ mostShared → y ≤ m .reach → Beside key pair → Beside (min key (standbyKey n y)) (min pair (pairKey n (x + y) x))
+  step : (n y key pair : ℕ) → n ≤ hazards → y ≤ m .reach → Beside key pair → Beside (min key (standbyKey n y)) (min pair (pairKey n (x + y) x))
   step n y key pair ns ys (kept e f) = go (ltb (standbyKey n y) (boundFor best x)) refl
     where
       both : (standbyKey n y < boundFor best x) ↔ (pairKey n (x + y) x < best)

@@ -10,9 +10,9 @@ use Rattle.problem.specs.declared.Fault.{Fault}
 use Rattle.problem.specs.declared.Reason.{Reason}
 use Rattle.problem.specs.Table.{recordAt, arcsOf, faultOf}
 use Rattle.problem.specs.Routes.{arcAt}
-use Rattle.problem.specs.Mending.{wholeArcs, faultAt, mayStay, stays, newNumber, zeroed, reasonFor, reasonAt, isListed, isLost, changed, isChanged, changeAt, changeBytes}
+use Rattle.problem.specs.Mending.{wholeArcs, faultAt, mayStay, stays, newNumber, reasonFor, reasonAt, isLost, changed, isChanged, changeAt, changeBytes}
 use Rattle.problem.proofs.TableLaws.{arcs-at}
-use Rattle.problem.proofs.MendLaws.{zeroed-length, whole-record, new-stays, new-removed}
+use Rattle.problem.proofs.MendLaws.{whole-record, new-stays, new-removed}
 use Rattle.problem.proofs.ChangeLaws.{change-length}
 use Rattle.mend.specs.Steps.{tablePart, listPart}
 
@@ -25,21 +25,21 @@ module _ (input : List ℕ) {k : ℕ} (inside : k < wholeArcs input) where
   reason-is {f} {n} e is new = e ∙ ap (λ (g : Fault). reasonFor g n) is ∙ ap (reasonFor (faultAt input k)) new
 
   -- what goes to the table, and to the list
-  pub to-table : {r : Reason} {b : List ℕ} → r ≡ reasonAt input k → b ≡ recordAt input k → _≡_ {A = List ℕ} (if isLost r then [] else zeroed b) (tablePart input k)
+  pub to-table : {r : Reason} {b : List ℕ} → r ≡ reasonAt input k → b ≡ recordAt input k → _≡_ {A = List ℕ} (if isLost r then [] else b) (tablePart input k)
   unfolding tablePart
-  to-table {r} {b} e is = ap (λ (s : Reason). if isLost s then [] else zeroed b) e ∙ ap (λ (l : List ℕ). if isLost (reasonAt input k) then [] else zeroed l) is
+  to-table {r} {b} e is = ap (λ (s : Reason). if isLost s then [] else b) e ∙ ap (λ (l : List ℕ). if isLost (reasonAt input k) then [] else l) is
 
-  pub to-list : {r : Reason} {n : ℕ} → r ≡ reasonAt input k → n ≡ newNumber input k → _≡_ {A = List ℕ} (if isListed r then changeBytes (changed k r n) else []) (listPart input k)
+  pub to-list : {r : Reason} {n : ℕ} → r ≡ reasonAt input k → n ≡ newNumber input k → _≡_ {A = List ℕ} (if isLost r then changeBytes (changed k r n) else []) (listPart input k)
   unfolding listPart
-  to-list {r} {n} e is = ap (λ (s : Reason). if isListed s then changeBytes (changed k s n) else []) e ∙ ap (λ (m : ℕ). if isListed (reasonAt input k) then changeBytes (changed k (reasonAt input k) m) else []) is
+  to-list {r} {n} e is = ap (λ (s : Reason). if isLost s then changeBytes (changed k s n) else []) e ∙ ap (λ (m : ℕ). if isLost (reasonAt input k) then changeBytes (changed k (reasonAt input k) m) else []) is
 
   pub table-part-short : length (tablePart input k) ≤ 16
   unfolding tablePart
   table-part-short = go (isLost (reasonAt input k)) refl
     where
-      go : (b : Bool) → isLost (reasonAt input k) ≡ b → length (if b then [] else zeroed (recordAt input k)) ≤ 16
+      go : (b : Bool) → isLost (reasonAt input k) ≡ b → length (if b then [] else recordAt input k) ≤ 16
       go true e = omega arith
-      go false e = omega (arith, zeroed-length (recordAt input k) (whole-record input inside))
+      go false e = omega (arith, whole-record input inside)
 
   pub list-part-short : length (listPart input k) ≤ 16
   unfolding listPart

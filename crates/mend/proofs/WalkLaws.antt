@@ -12,7 +12,7 @@ use borrow.Author.Tests.{ltb-true, ltb-false}
 use Rattle.laws.specs.Choosing.{if_then_else_, numbersFrom, keep}
 use Rattle.laws.proofs.ListLaws.{keep-first, keep-past}
 use Rattle.problem.specs.Table.{mostInTable, recordAt}
-use Rattle.problem.specs.Mending.{wholeArcs, faultAt, stays, stayingBelow, newNumber, keptArcs, zeroed, mendedTable, reasonAt, isLost, isChanged, changeAt, changeBytes}
+use Rattle.problem.specs.Mending.{wholeArcs, faultAt, stays, stayingBelow, newNumber, keptArcs, mendedTable, reasonAt, isLost, isChanged, changeAt, changeBytes}
 use Rattle.problem.proofs.MendLaws.{new-stays, new-removed}
 use Rattle.problem.proofs.ChangeLaws.{removed-lost, kept-reason, past-reason}
 use Rattle.octets.proofs.PutLaws.{Unfinished, none-put, more-put, all-put, puts-length}
@@ -23,7 +23,7 @@ use Rattle.mend.proofs.StepLaws.{table-part-short, list-part-short}
 module _ (input : List ℕ) where
   -- the records of some arcs, one behind the other
   join : List ℕ → List ℕ
-  join = flatMap (λ j. zeroed (recordAt input j))
+  join = flatMap (recordAt input)
 
   -- what the m arcs from k on add to the table
   pub tableFrom : ℕ → ℕ → List ℕ
@@ -33,7 +33,7 @@ module _ (input : List ℕ) where
   unfolding tablePart
   part-lost k e = rw e
 
-  part-kept : (k : ℕ) → isLost (reasonAt input k) ≡ false → tablePart input k ≡ zeroed (recordAt input k)
+  part-kept : (k : ℕ) → isLost (reasonAt input k) ≡ false → tablePart input k ≡ recordAt input k
   unfolding tablePart
   part-kept k e = rw e
 
@@ -61,7 +61,7 @@ module _ (input : List ℕ) where
       go : (b : Bool) → stays input k ≡ b → (t : Bool) → ltb new mostInTable ≡ t → tableFrom k (suc m) ≡ tablePart input k ++ tableFrom (k + 1) m
       go false e t f =
           ap (λ (l : List ℕ). join (take (mostInTable - new) l)) (keep-past (stays input) k (numbersFrom (suc k) m) e)
-          ∙ sym (ap₂ (λ (x y : List ℕ). x ++ y) (part-lost k (removed-lost (faultAt input k) new e .0)) (from-next k m (new-removed input k e)))
+          ∙ sym (ap₂ (λ (x y : List ℕ). x ++ y) (part-lost k (removed-lost (faultAt input k) new e)) (from-next k m (new-removed input k e)))
       go true e true f =
           let room = ltb-true new mostInTable f in
           let one : mostInTable - new ≡ suc (mostInTable - (new + 1)) = omega arith in

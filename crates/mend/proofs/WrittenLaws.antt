@@ -1,16 +1,14 @@
--- What is written: the bytes of a change, a record with its spare bytes made zero, a torn end. Assumes nothing.
+-- What is written: the bytes of a change, a torn end. Assumes nothing.
 use Prim.Native.Nat.{ℕ, _+_, _*_, _-_, _/_, _%_, _≤_}
-use mathlib.Core.List.{List, [], _∷_, _++_, flatMap, append-nil}
+use mathlib.Core.List.{List, [], _∷_, flatMap, append-nil}
 use mathlib.Core.Path.{_≡_, sym, ap, _∙_}
 use native.Mathlib.Omega.{arith}
-use lib.ListN.{length, take, drop}
-use lib.Seq.{take-all}
+use lib.ListN.{length}
 use Rattle.laws.specs.Choosing.{if_then_else_}
 use Rattle.problem.specs.declared.Reason.{Reason}
 use Rattle.problem.specs.declared.Reason.the-variants.{TornEnd}
 use Rattle.problem.specs.Table.{bytesOf}
-use Rattle.problem.specs.Mending.{wholeArcs, zeroed, reasonNumber, isLost, noNumber, changed, changeBytes, roundedUp}
-use Rattle.problem.proofs.MendLaws.{Headed, record-headed}
+use Rattle.problem.specs.Mending.{wholeArcs, reasonNumber, isLost, noNumber, changed, changeBytes, roundedUp}
 use Rattle.problem.proofs.ChangeLaws.{Ended, ended, whole-end, torn-end, change-length}
 use Rattle.mend.specs.Steps.{tornBytes}
 
@@ -18,13 +16,6 @@ pub change-written : (old number n : ℕ) (r : Reason) (new : ℕ) → number �
     → old % 256 ∷ old / 256 % 256 ∷ number ∷ 0 ∷ n % 256 ∷ n / 256 % 256 ∷ 0 ∷ 0 ∷ 0 ∷ 0 ∷ 0 ∷ 0 ∷ 0 ∷ 0 ∷ 0 ∷ 0 ∷ [] ≡ changeBytes (changed old r new)
 unfolding changeBytes bytesOf
 change-written old number n r new e f = rw (e, f)
-
-pub zeroed-written : (b : List ℕ) → length b ≡ 16 → take 2 b ++ bytesOf 2 0 ++ take (length b - 4) (drop 4 b) ≡ zeroed b
-unfolding zeroed bytesOf
-zeroed-written b h = go (record-headed b h)
-  where
-    go : {b : List ℕ} → Headed b → take 2 b ++ bytesOf 2 0 ++ take (length b - 4) (drop 4 b) ≡ zeroed b
-    go (Headed.headed tail head low high rest) = ap (λ (r : List ℕ). tail ∷ head ∷ 0 ∷ 0 ∷ r) (take-all (length (tail ∷ head ∷ low ∷ high ∷ rest) - 4) rest (omega arith))
 
 -- ---- a torn end
 

@@ -5,7 +5,7 @@ use mathlib.Core.Path.{_≡_}
 use lib.ListN.{length}
 use Rattle.laws.specs.Choosing.{if_then_else_}
 use Rattle.problem.specs.Table.{recordAt}
-use Rattle.problem.specs.Mending.{mostFieldBytes, wholeArcs, newNumber, zeroed, mendedTable, reasonAt, isLost, tornEnd, isChanged, changeAt, changesFrom, changeBytes, roundedUp, Mends}
+use Rattle.problem.specs.Mending.{mostFieldBytes, wholeArcs, newNumber, mendedTable, reasonAt, isLost, tornEnd, isChanged, changeAt, changesFrom, changeBytes, roundedUp, Mends}
 use Rattle.octets.specs.Puts.{Puts}
 use Rattle.mend.specs.declared.Done.{Done}
 use Rattle.mend.specs.declared.Mended.{Mended}
@@ -13,7 +13,7 @@ use Rattle.mend.specs.declared.Mended.{Mended}
 module _ (input : List ℕ) where
   -- what arc k adds to the table, and to the list
   unfoldable pub tablePart : ℕ → List ℕ
-  tablePart k = if isLost (reasonAt input k) then [] else zeroed (recordAt input k)
+  tablePart k = if isLost (reasonAt input k) then [] else recordAt input k
 
   unfoldable pub listPart : ℕ → List ℕ
   listPart k = if isChanged input k then changeBytes (changeAt input k) else []

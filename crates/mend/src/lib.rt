@@ -7,12 +7,10 @@ use problem::Reason;
 ghost use mathlib.Core.Path.{_≡_};
 ghost use mathlib.Core.List.{[]};
 ghost use Prim.Native.Nat.{_+_, _≤_};
-ghost use lib.Dec.{ltb};
 ghost use lib.ListN.{length};
 ghost use Rattle.laws.specs.Choosing.{if_then_else_};
-ghost use Rattle.problem.specs.Table.{mostInTable};
 ghost use Rattle.problem.specs.Reply.{firstNumber};
-ghost use Rattle.problem.specs.Mending.{mostFieldBytes, mayStay, zeroed, reasonFor, isListed, isLost, noNumber, changed, changeBytes, mendChecks};
+ghost use Rattle.problem.specs.Mending.{mostFieldBytes, mayStay, reasonFor, isLost, noNumber, changed, changeBytes, mendChecks};
 ghost use Rattle.octets.specs.Puts.{Puts};
 ghost use Rattle.mend.specs.Steps.{tornBytes, Ready, Stepped, Roomy, AllStepped, MendsBy};
 
@@ -29,17 +27,16 @@ fn may_stay(f: Fault) -> bool
         Fault::Node => false,
         Fault::EqualEnds => false,
         Fault::Length => false,
-        Fault::Spare => true,
         Fault::Sound => true,
     }
 }
 
-// The reason of an arc that stays, by its number afterwards: past 128 it is lost all the same.
-fn within_limit(r: Reason, new: usize) -> Reason
-    ensures { λ s. ⌜ s ≡ (if ltb new mostInTable then r else Reason.PastLimit) ⌝ }
+// The reason of a sound arc, by its number afterwards: past 128 it is lost all the same.
+fn within_limit(new: usize) -> Reason
+    ensures { λ s. ⌜ s ≡ reasonFor Fault.Sound new ⌝ }
 {
     if new < MOST_IN_TABLE {
-        return r;
+        return Reason::Unchanged;
     }
     Reason::PastLimit
 }
@@ -52,27 +49,11 @@ fn reason_for(f: Fault, new: usize) -> Reason
         Fault::Node => Reason::BadNode,
         Fault::EqualEnds => Reason::SameEnds,
         Fault::Length => Reason::TooLong,
-        Fault::Spare => within_limit(Reason::SpareUsed, new),
-        Fault::Sound => within_limit(Reason::Unchanged, new),
+        Fault::Sound => within_limit(new),
     }
 }
 
-// Whether it stands in the list.
-fn is_listed(r: Reason) -> bool
-    ensures { λ b. ⌜ b ≡ isListed r ⌝ }
-{
-    match r {
-        Reason::Unchanged => false,
-        Reason::BadNode => true,
-        Reason::SameEnds => true,
-        Reason::TooLong => true,
-        Reason::SpareUsed => true,
-        Reason::PastLimit => true,
-        Reason::TornEnd => true,
-    }
-}
-
-// Whether the arc is lost.
+// Whether the arc is lost: then it stands in the list.
 fn is_lost(r: Reason) -> bool
     ensures { λ b. ⌜ b ≡ isLost r ⌝ }
 {
@@ -81,7 +62,6 @@ fn is_lost(r: Reason) -> bool
         Reason::BadNode => true,
         Reason::SameEnds => true,
         Reason::TooLong => true,
-        Reason::SpareUsed => false,
         Reason::PastLimit => true,
         Reason::TornEnd => true,
     }
@@ -140,33 +120,23 @@ fn put_change(list: &mut [u8], at: usize, old: usize, r: Reason, new: usize) -> 
 // Puts it where there is one.
 fn note_change(list: &mut [u8], at: usize, old: usize, r: Reason, new: usize) -> usize
     requires { ⌜ at + 16 ≤ length (now list) ⌝ }
-    ensures { λ next. ⌜ Puts (if isListed r then changeBytes (changed old r new) else []) (now (list .entry)) at (now (list .exit)) next ⌝ }
+    ensures { λ next. ⌜ Puts (if isLost r then changeBytes (changed old r new) else []) (now (list .entry)) at (now (list .exit)) next ⌝ }
 {
-    if is_listed(r) {
+    if is_lost(r) {
         return put_change(list, at, old, r, new);
     }
     at
 }
 
-// Puts an arc's sixteen bytes, the spare ones made zero.
-fn put_zeroed(table: &mut [u8], at: usize, bytes: &[u8]) -> usize
-    requires { ⌜ (at + 16 ≤ length (now table)) × (length (now bytes) ≡ 16) ⌝ }
-    ensures { λ next. ⌜ Puts (zeroed (now (bytes .entry))) (now (table .entry)) at (now (table .exit)) next ⌝ }
-{
-    let next = octets::copy(table, at, &bytes[0..2]);
-    let next = octets::put_number(table, next, 2, 0);
-    octets::copy(table, next, &bytes[4..])
-}
-
-// Puts them where the arc is not lost.
+// Puts an arc's sixteen bytes where it is not lost.
 fn keep_arc(table: &mut [u8], at: usize, bytes: &[u8], r: Reason) -> usize
     requires { ⌜ (at + 16 ≤ length (now table)) × (length (now bytes) ≡ 16) ⌝ }
-    ensures { λ next. ⌜ Puts (if isLost r then [] else zeroed (now (bytes .entry))) (now (table .entry)) at (now (table .exit)) next ⌝ }
+    ensures { λ next. ⌜ Puts (if isLost r then [] else now (bytes .entry)) (now (table .entry)) at (now (table .exit)) next ⌝ }
 {
     if is_lost(r) {
         return at;
     }
-    put_zeroed(table, at, bytes)
+    octets::copy(table, at, bytes)
 }
 
 // ---- All arcs

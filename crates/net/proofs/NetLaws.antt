@@ -24,7 +24,7 @@ arcs-count net = length-from net (wordAt net arcCountAt) 0
 
 from-at : (net : List ℕ) (n k i : ℕ) → i < n
     → arcAt (arcsFrom net n k) i
-    ≡ record { tail = wordAt net (restFrom + (k + i)) % 256; head = wordAt net (headsFrom + (k + i)); spare = wordAt net (restFrom + (k + i)) / 256; metres = wordAt net (metresFrom + (k + i)); risks = wordAt net (k + i) }
+    ≡ record { tail = wordAt net (restFrom + (k + i)) % 256; head = wordAt net (headsFrom + (k + i)); span = wordAt net (restFrom + (k + i)) / 256; metres = wordAt net (metresFrom + (k + i)); risks = wordAt net (k + i) }
 unfolding arcsFrom
 from-at net zero k i h = absurd (not-suc-le-zero h)
 from-at net (suc n) k zero h = let e : k + 0 ≡ k = omega arith in rw e
@@ -32,7 +32,7 @@ from-at net (suc n) k (suc i) h = let e : suc k + i ≡ k + suc i = omega arith 
 
 module _ (net : List ℕ) (k : ℕ) (h : k < length (arcsIn net)) where
   pub arc-is : arcAt (arcsIn net) k
-      ≡ record { tail = wordAt net (restFrom + k) % 256; head = wordAt net (headsFrom + k); spare = wordAt net (restFrom + k) / 256; metres = wordAt net (metresFrom + k); risks = wordAt net k }
+      ≡ record { tail = wordAt net (restFrom + k) % 256; head = wordAt net (headsFrom + k); span = wordAt net (restFrom + k) / 256; metres = wordAt net (metresFrom + k); risks = wordAt net k }
   unfolding arcsIn
   arc-is = let e : 0 + k ≡ k = omega arith in rw e at (from-at net (wordAt net arcCountAt) 0 k (omega (arith, arcs-count net)))
 
@@ -41,9 +41,6 @@ module _ (net : List ℕ) (k : ℕ) (h : k < length (arcsIn net)) where
 
   pub metres-word : wordAt net (metresFrom + k) ≡ arcAt (arcsIn net) k .metres
   metres-word = ap (λ (a : Arc). a .metres) (sym arc-is)
-
-  pub risks-word : wordAt net k ≡ arcAt (arcsIn net) k .risks
-  risks-word = ap (λ (a : Arc). a .risks) (sym arc-is)
 
 -- from one arc of the chain to the next
 pub left-next : {S : Type 0} (arcs : List Arc) (terminal : ℕ) (visit : S → List ℕ → S) (n met at i j : ℕ) (s : S) → Next arcs at i j

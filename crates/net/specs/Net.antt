@@ -11,9 +11,9 @@ use Rattle.problem.specs.Exposures.{ofArc}
 use Rattle.problem.specs.Routes.{Mesh, mesh, arcAt, Way, metresOf, Route, ranking}
 use Rattle.chain.specs.Chain.{Next}
 
--- where the words of each kind begin: as many words as a table can have arcs for the arcs' risks, metres, heads and next arcs, and for what else an arc's record
--- says, as many as there are nodes for the nodes' first arcs and lower bounds; then the number of arcs and the request; then the number of doors, the arcs into
--- the terminal, and their risks
+-- where the words of each kind begin: as many words as a table can have arcs for the arcs' risks, metres, heads and next arcs, for what else an arc's record
+-- says, and for the two fields of its span; as many as there are nodes for the nodes' first arcs and lower bounds; then the number of arcs and the request; then the
+-- number of doors, the arcs into the terminal, and their numbers
 abbrev pub metresFrom : ℕ
 metresFrom = mostInTable
 
@@ -26,8 +26,14 @@ nextFrom = headsFrom + mostInTable
 abbrev pub restFrom : ℕ
 restFrom = nextFrom + mostInTable
 
+abbrev pub lowFrom : ℕ
+lowFrom = restFrom + mostInTable
+
+abbrev pub highFrom : ℕ
+highFrom = lowFrom + mostInTable
+
 abbrev pub firstFrom : ℕ
-firstFrom = restFrom + mostInTable
+firstFrom = highFrom + mostInTable
 
 abbrev pub lowerFrom : ℕ
 lowerFrom = firstFrom + nodes
@@ -56,12 +62,12 @@ netSize = doorsFrom + mostInTable
 abbrev pub wordAt : List ℕ → ℕ → ℕ
 wordAt net i = getD net i 0
 
--- the arcs that the words say: n of them, from number k on. No search reads the word of an arc's tail and spare field (the tail is its lowest byte); it is
+-- the arcs that the words say: n of them, from number k on. No search reads the word of an arc's tail and span (the tail is its lowest byte); it is
 -- there so that the words say the table's own arcs
 unfoldable pub arcsFrom : List ℕ → ℕ → ℕ → List Arc
 arcsFrom net zero k = []
 arcsFrom net (suc n) k =
-    record { tail = wordAt net (restFrom + k) % 256; head = wordAt net (headsFrom + k); spare = wordAt net (restFrom + k) / 256; metres = wordAt net (metresFrom + k); risks = wordAt net k }
+    record { tail = wordAt net (restFrom + k) % 256; head = wordAt net (headsFrom + k); span = wordAt net (restFrom + k) / 256; metres = wordAt net (metresFrom + k); risks = wordAt net k }
     ∷ arcsFrom net n (suc k)
 
 unfoldable pub arcsIn : List ℕ → List Arc
@@ -75,19 +81,22 @@ meshIn net = mesh (arcsIn net) (wordAt net sourceAt) (wordAt net terminalAt) (wo
 abbrev pub routesIn : List ℕ → List Route
 routesIn net = ranking (meshIn net)
 
--- what a word says of an exposure
-abbrev pub exposedTo : ℕ → Exposure
-exposedTo word = record { risks = word }
+-- what the words say that arc k is exposed to
+abbrev pub exposureIn : List ℕ → ℕ → Exposure
+exposureIn net k = record { risks = wordAt net k; low = wordAt net (lowFrom + k); high = wordAt net (highFrom + k) }
 
--- what the door of number j is exposed to
+-- the arc that is the door of number j, and what it is exposed to
+abbrev pub doorArc : List ℕ → ℕ → ℕ
+doorArc net j = wordAt net (doorsFrom + j)
+
 abbrev pub doorIn : List ℕ → ℕ → Exposure
-doorIn net j = exposedTo (wordAt net (doorsFrom + j))
+doorIn net j = ofArc (arcAt (arcsIn net) (doorArc net j))
 
--- among the doors, of which there are so many, is one exposed to this
-pub record DoorWith (e : Exposure) (count : ℕ) (net : List ℕ) : Type 0 where
+-- arc k is one of the doors, of which there are so many
+pub record IsDoor (k : ℕ) (count : ℕ) (net : List ℕ) : Type 0 where
   pub place : ℕ
   pub inside : place < count
-  pub is : doorIn net place ≡ e
+  pub is : doorArc net place ≡ k
 
 -- what else holds of words that say this mesh
 pub record Chained (m : Mesh) (net : List ℕ) : Type 0 where
@@ -105,9 +114,12 @@ pub record Chained (m : Mesh) (net : List ℕ) : Type 0 where
   pub lower : (v : ℕ) → v ≤ lastNode → {ks : List ℕ} → Way (m .arcs) v (m .terminal) ks → wordAt net (lowerFrom + v) ≤ metresOf (m .arcs) ks
   pub lower-small : (v : ℕ) → v ≤ lastNode → wordAt net (lowerFrom + v) < 2 ^ 32
   pub lower-terminal : wordAt net (lowerFrom + m .terminal) ≡ 0
-  -- each arc into the terminal is a door
+  -- to what each arc is exposed
+  pub exposure : (k : ℕ) → k < length (m .arcs) → exposureIn net k ≡ ofArc (arcAt (m .arcs) k)
+  -- each arc into the terminal is a door, and each door is an arc
   pub few-doors : wordAt net doorCountAt ≤ mostInTable
-  pub door : (k : ℕ) → k < length (m .arcs) → arcAt (m .arcs) k .head ≡ m .terminal → DoorWith (ofArc (arcAt (m .arcs) k)) (wordAt net doorCountAt) net
+  pub door : (k : ℕ) → k < length (m .arcs) → arcAt (m .arcs) k .head ≡ m .terminal → IsDoor k (wordAt net doorCountAt) net
+  pub door-inside : (j : ℕ) → j < wordAt net doorCountAt → doorArc net j < length (m .arcs)
 
 -- the words hang together
 abbrev pub Net : List ℕ → Type 0

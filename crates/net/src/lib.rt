@@ -18,7 +18,11 @@ const NEXT_FROM: u64 = HEADS_FROM + METRES_FROM;
 
 const REST_FROM: u64 = NEXT_FROM + METRES_FROM;
 
-pub const FIRST_FROM: u64 = REST_FROM + METRES_FROM;
+const LOW_FROM: u64 = REST_FROM + METRES_FROM;
+
+const HIGH_FROM: u64 = LOW_FROM + METRES_FROM;
+
+pub const FIRST_FROM: u64 = HIGH_FROM + METRES_FROM;
 
 const LOWER_FROM: u64 = FIRST_FROM + problem::NODES as u64;
 
@@ -63,6 +67,8 @@ pub fn exposure(net: &[u64], k: u64) -> Exposure
 {
     Exposure {
         risks: word(net, k),
+        low: word(net, LOW_FROM + k),
+        high: word(net, HIGH_FROM + k),
     }
 }
 
@@ -131,7 +137,7 @@ pub fn source(net: &[u64]) -> u64
     word(net, SOURCE_AT)
 }
 
-// How many arcs lead into the terminal, and what each is exposed to: these arcs are the doors.
+// How many arcs lead into the terminal, the doors, and what each is exposed to.
 pub fn door_count(net: &[u64]) -> u64
     requires { ⌜ Net (now net) ⌝ }
     ensures { λ r. ⌜ r ≡ wordAt (now (net .entry)) doorCountAt ⌝ }
@@ -143,7 +149,5 @@ pub fn door_exposure(net: &[u64], j: u64) -> Exposure
     requires { ⌜ Net (now net) × (j < wordAt (now net) doorCountAt) ⌝ }
     ensures { λ r. ⌜ r ≡ doorIn (now (net .entry)) j ⌝ }
 {
-    Exposure {
-        risks: word(net, DOORS_FROM + j),
-    }
+    exposure(net, word(net, DOORS_FROM + j))
 }

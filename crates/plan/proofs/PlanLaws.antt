@@ -12,7 +12,7 @@ use Rattle.laws.specs.Choosing.{if_then_else_}
 use Rattle.laws.specs.Sets.{with}
 use Rattle.laws.proofs.FoldLaws.{keep-all}
 use Rattle.laws.proofs.ListLaws.{getD-mem, length-keep}
-use Rattle.problem.specs.Table.{mostShared, mostArcs, mostReach}
+use Rattle.problem.specs.Table.{hazards, mostArcs, mostReach}
 use Rattle.problem.specs.Routes.{Route, routeOf, within, count, shorter}
 use Rattle.problem.specs.Pairs.{noRoute, every, best, onEvery, floor, settledByLength}
 use Rattle.problem.proofs.ExposureLaws.{size-le}
@@ -61,7 +61,7 @@ module _ (net : List ℕ) (words : Net net) where
       rw (some, n, m, e, s .last-is pos)
 
   -- before the first main nothing is met
-  pub met-none : {t : Tally} → Stepped (routesIn net) 0 t → (f : ℕ) → f ≤ mostShared → metBy t f ≡ false
+  pub met-none : {t : Tally} → Stepped (routesIn net) 0 t → (f : ℕ) → f ≤ hazards → metBy t f ≡ false
   unfolding metBy
   met-none s f small =
       let n : eqb (sharedOf noKey) f ≡ false = ne-eqb _ f (λ e. omega (arith, noKey-shared)) in
@@ -78,7 +78,7 @@ module _ (net : List ℕ) (words : Net net) where
   -- ---- the end of a run
 
   module _ (allowance low : ℕ) (planning : Planning net allowance low) where
-    floor-range : low ≤ mostShared
+    floor-range : low ≤ hazards
     unfolding floor
     floor-range = omega (arith, planning .floor-is, size-le (onEvery (routesIn net)))
 

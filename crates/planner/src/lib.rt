@@ -9,7 +9,7 @@ ghost use lib.ListN.{length};
 ghost use Rattle.problem.specs.Table.{arcsOf};
 ghost use Rattle.problem.specs.Exposures.{toNothing};
 ghost use Rattle.problem.specs.Routes.{ranking};
-ghost use Rattle.problem.specs.Reply.{meshOf, Checked};
+ghost use Rattle.problem.specs.Reply.{meshOver, meshOf, Checked};
 ghost use Rattle.side.specs.Side.{SideTable};
 ghost use Rattle.planner.specs.Planner.{Planned};
 
@@ -39,8 +39,8 @@ fn nothing() -> Made
 fn make(table: &[u8], q: Request, side: Side) -> Made
     requires { ⌜ Checked (now table) q ⌝ }
     requires { ⌜ SideTable (arcsOf (now table)) (q .terminal) toNothing side ⌝ }
-    requires { ⌜ 0 < length (ranking (meshOf (now table) q)) ⌝ }
-    ensures { λ r. ⌜ Planned (ranking (meshOf (now (table .entry)) q)) (q .allowance) r ⌝ }
+    requires { ⌜ 0 < length (ranking (meshOver (arcsOf (now table)) q)) ⌝ }
+    ensures { λ r. ⌜ Planned (ranking (meshOver (arcsOf (now (table .entry))) q)) (q .allowance) r ⌝ }
 {
     let allowance = q.allowance as u64;
     let common = floor::common_exposure(table, q, side);
@@ -58,10 +58,10 @@ fn make(table: &[u8], q: Request, side: Side) -> Made
     }
 }
 
-// Plans a call whose checks have passed. There is a route exactly where the shortest way fits the reach.
-pub fn plan_checked(table: &[u8], q: Request) -> Made
+// Plans over the arcs of a table as they are read. There is a route exactly where the shortest way fits the reach.
+fn plan_read(table: &[u8], q: Request) -> Made
     requires { ⌜ Checked (now table) q ⌝ }
-    ensures { λ r. ⌜ Planned (ranking (meshOf (now (table .entry)) q)) (q .allowance) r ⌝ }
+    ensures { λ r. ⌜ Planned (ranking (meshOver (arcsOf (now (table .entry))) q)) (q .allowance) r ⌝ }
 {
     let side = side::side_table(table, q.terminal as u8, exposure::nothing());
     let entry = side.entries[q.source as usize];
@@ -72,4 +72,17 @@ pub fn plan_checked(table: &[u8], q: Request) -> Made
         return nothing();
     }
     make(table, q, side)
+}
+
+// Plans a call whose checks have passed. A table without spans is planned over as it is, any other with its spans known by their first arcs.
+pub fn plan_checked(table: &[u8], q: Request) -> Made
+    requires { ⌜ Checked (now table) q ⌝ }
+    ensures { λ r. ⌜ Planned (ranking (meshOf (now (table .entry)) q)) (q .allowance) r ⌝ }
+{
+    if !spans::any(table) {
+        return plan_read(table, q);
+    }
+    let mut marked = [0; problem::MOST_TABLE_BYTES];
+    spans::put_all(&mut marked, table);
+    plan_read(&marked[0..table.len()], q)
 }

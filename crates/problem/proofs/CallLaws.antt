@@ -10,12 +10,14 @@ use lib.ListN.{length}
 use borrow.Author.Tests.{leb-true, leb-false, le-leb, lt-leb, ltb-true, ltb-false}
 use Rattle.laws.proofs.ListLaws.{getD-mem}
 use Rattle.problem.specs.declared.Request.{Request}
-use Rattle.problem.specs.Table.{arcsOf}
-use Rattle.problem.specs.Routes.{Route, routeOf}
+use Rattle.problem.specs.Table.{arcsOf, faultOf}
+use Rattle.problem.specs.Spans.{plannedArcs}
+use Rattle.problem.specs.Routes.{Route, arcAt, routeOf}
 use Rattle.problem.specs.Pairs.{noRoute, Step, every, someAt, leastSettled, ranked, verdict}
 use Rattle.problem.specs.Reply.{meshOf, Answer, Passed, answer}
 use Rattle.problem.specs.Calls.{routesOf, RouteOf, Applies, Told, LowestFault}
-use Rattle.problem.proofs.FaultLaws.{lowest-first}
+use Rattle.problem.proofs.FaultLaws.{fault-range, lowest-first}
+use Rattle.problem.proofs.SpanLaws.{planned-sound}
 use Rattle.problem.proofs.PathLaws.{sound-heads}
 use Rattle.problem.proofs.RankingLaws.{ranking-in, ranking-out}
 use Rattle.problem.proofs.CandidateLaws.{every-some}
@@ -104,8 +106,8 @@ NoRoute table q = (ks : List ℕ) → RouteOf table q ks → ⊥
 
 none-listed : {table : List ℕ} {q : Request} {size : ℕ} → Passed table q size → routesOf table q ≡ [] → NoRoute table q
 none-listed {table} {q} p none ks r =
-    let m = ranking-in (meshOf table q) (sound-heads (arcsOf table) (p .checked .sound)) (p .checked .source-node) r in
-    List·Memᴰ·not-nil (subst (λ (l : List Route). List·Memᴰ (routeOf (arcsOf table) ks) l) none m)
+    let m = ranking-in (meshOf table q) (sound-heads (plannedArcs table) (planned-sound table (p .checked .sound))) (p .checked .source-node) r in
+    List·Memᴰ·not-nil (subst (λ (l : List Route). List·Memᴰ (routeOf (plannedArcs table) ks) l) none m)
 
 some-listed : (table : List ℕ) (q : Request) → 0 < length (routesOf table q) → NoRoute table q → ⊥
 some-listed table q some f =
@@ -158,11 +160,15 @@ module _ (table : List ℕ) (q : Request) (size : ℕ) where
   arc-apart past = lowest past (answer table q size .number / 256) (answer table q size .number % 256) (omega arith) (omega arith)
 
   -- where no turn before that of the arcs comes to a number, which arc it names, and which fault
-  pub arc-named : NoneBefore table q size 9 → (n i : ℕ) → 20 ≤ n → n ≤ 23 → (answer table q size .number ≡ n + 256 * i) ↔ LowestFault (arcsOf table) i n
+  pub arc-named : NoneBefore table q size 9 → (n i : ℕ) → 20 ≤ n → n ≤ 22 → (answer table q size .number ≡ n + 256 * i) ↔ LowestFault (arcsOf table) i n
   arc-named below n i low high = (
     λ e. lowest (omega arith) i n (omega arith) e,
     λ l. numbered (n + 256 * i) (omega arith) .1 (subst (Told table q size) (omega (arith, l .first-fault)) (told-faulty table q size below (lowest-first (arcsOf table) l))),
   )
+
+  -- no arc has a fault of number 23
+  pub never-spare : (i : ℕ) → answer table q size .number ≡ 23 + 256 * i → ⊥
+  never-spare i e = let l = lowest (omega arith) i 23 (omega arith) e in omega (arith, l .first-fault, fault-range (faultOf (arcAt (arcsOf table) i)))
 
   -- no number is 9, or past 10 without an arc
   pub number-known : Known (answer table q size .number)

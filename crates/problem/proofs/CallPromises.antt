@@ -10,12 +10,13 @@ use lib.ListN.{length, take, drop}
 use Rattle.laws.specs.Choosing.{Pairwise}
 use lib.Seq.{take-at, take-append-seam, drop-append-seam}
 use Rattle.problem.specs.declared.Request.{Request}
-use Rattle.problem.specs.Table.{mostReach, mostAllowance, replySize, Bytes, over, recordAt, arcsOf}
-use Rattle.problem.specs.Routes.{Route, metresOf}
-use Rattle.problem.specs.Pairs.{pair, sharedRisks, sharedCount, total, judged, NoWorse, ofRank, floor}
-use Rattle.problem.specs.Reply.{answer, after, sharedIn, rankedIn, mainMetresIn, standbyMetresIn, totalIn, sharedRisksIn, mainIn, standbyIn}
-use Rattle.problem.specs.Calls.{routesOf, RouteOf, WayOf, pairMadeOf, pairSaid, allowing, Applies, Told, LowestFault, Called}
-use Rattle.problem.specs.Mending.{mostFieldBytes, Clean, zeroed, mendedTable, Change, mendedList, changesIn, oldNumber, roundedUp, Mending, mending, Mends, KeptAs, lost, Listed}
+use Rattle.problem.specs.Table.{mostArcs, mostShared, mostReach, mostAllowance, replySize, Bytes, over, recordAt, arcsOf}
+use Rattle.problem.specs.Routes.{Route, arcAt, metresOf}
+use Rattle.problem.specs.Spans.{plannedArcs}
+use Rattle.problem.specs.Pairs.{pair, sharedRisks, sharedCount, sharedSpans, total, judged, NoWorse, ofRank, floor}
+use Rattle.problem.specs.Reply.{Answer, answer, after, sharedIn, sharedSpansIn, rankedIn, mainMetresIn, standbyMetresIn, totalIn, sharedRisksIn, mainIn, standbyIn}
+use Rattle.problem.specs.Calls.{routesOf, RouteOf, WayOf, pairMadeOf, pairSaid, allowing, Applies, Told, LowestFault, answerByRisks, Called}
+use Rattle.problem.specs.Mending.{mostFieldBytes, Clean, mendedTable, Change, mendedList, changesIn, oldNumber, roundedUp, Mending, mending, Mends, KeptAs, lost, Listed}
 use Rattle.problem.proofs.MendCallLaws as MendCallLaws
 use Rattle.problem.proofs.Promises as promised
 
@@ -62,27 +63,30 @@ module _ {table : List ℕ} {q : Request} {before now : List ℕ} {number : ℕ}
     pub call-routes : RouteOf table q (mainIn reply) × RouteOf table q (standbyIn reply)
     call-routes = rw (replied answered) (promised.reply-routes table q (length before) (low answered))
 
-    pub call-metres : (mainMetresIn reply ≡ metresOf (arcsOf table) (mainIn reply)) × (standbyMetresIn reply ≡ metresOf (arcsOf table) (standbyIn reply))
+    pub call-metres : (mainMetresIn reply ≡ metresOf (plannedArcs table) (mainIn reply)) × (standbyMetresIn reply ≡ metresOf (plannedArcs table) (standbyIn reply))
     call-metres = rw (replied answered) (promised.reply-metres table q (length before) (low answered))
 
-    pub call-shared : sharedIn reply ≡ sharedCount (pairSaid (arcsOf table) reply)
+    pub call-shared : sharedIn reply ≡ sharedCount (pairSaid (plannedArcs table) reply)
     call-shared = rw (replied answered) (promised.reply-shared table q (length before) (low answered))
 
-    pub call-risks : Bytes table → sharedRisksIn reply ≡ sharedRisks (pairSaid (arcsOf table) reply)
+    pub call-spans : sharedSpansIn reply ≡ sharedSpans (pairSaid (plannedArcs table) reply)
+    call-spans = rw (replied answered) (promised.reply-spans table q (length before) (low answered))
+
+    pub call-risks : Bytes table → sharedRisksIn reply ≡ sharedRisks (pairSaid (plannedArcs table) reply)
     call-risks = rw (replied answered) (promised.reply-risks table q (length before) (low answered))
 
     -- the main is among the first `allowance` routes, the standby is any route, and every other such pair comes after it
-    pub call-main : List·Memᴰ (pairSaid (arcsOf table) reply .main) (take (q .allowance) (routesOf table q))
+    pub call-main : List·Memᴰ (pairSaid (plannedArcs table) reply .main) (take (q .allowance) (routesOf table q))
     call-main = rw (replied answered) (promised.main-allowed table q (length before) (low answered))
 
-    pub call-standby : List·Memᴰ (pairSaid (arcsOf table) reply .standby) (routesOf table q)
+    pub call-standby : List·Memᴰ (pairSaid (plannedArcs table) reply .standby) (routesOf table q)
     call-standby = rw (replied answered) (promised.standby-any table q (length before) (low answered))
 
-    pub call-none-before : (m s : Route) → List·Memᴰ m (take (q .allowance) (routesOf table q)) → List·Memᴰ s (routesOf table q) → judged (pair m s) (pairSaid (arcsOf table) reply) ≡ false
+    pub call-none-before : (m s : Route) → List·Memᴰ m (take (q .allowance) (routesOf table q)) → List·Memᴰ s (routesOf table q) → judged (pair m s) (pairSaid (plannedArcs table) reply) ≡ false
     call-none-before = rw (replied answered) (promised.none-before table q (length before) (low answered))
 
     pub call-others-after : (m s : Route) → List·Memᴰ m (take (q .allowance) (routesOf table q)) → List·Memᴰ s (routesOf table q)
-        → (pair m s ≡ pairSaid (arcsOf table) reply) ⊎ (judged (pairSaid (arcsOf table) reply) (pair m s) ≡ true)
+        → (pair m s ≡ pairSaid (plannedArcs table) reply) ⊎ (judged (pairSaid (plannedArcs table) reply) (pair m s) ≡ true)
     call-others-after = rw (replied answered) (promised.others-after table q (length before) (low answered))
 
     -- ==== Demand 3
@@ -90,7 +94,7 @@ module _ {table : List ℕ} {q : Request} {before now : List ℕ} {number : ℕ}
     -- settled exactly by 01's rule, read off the bytes
     pub call-settled : (number ≡ 0)
         ↔ ((rankedIn reply ≡ length (routesOf table q))
-        ⊎ ((sharedCount (pairSaid (arcsOf table) reply) ≡ floor (routesOf table q)) × (total (pairSaid (arcsOf table) reply) ≤ 2 * ofRank (routesOf table q) (rankedIn reply) .metres)))
+        ⊎ ((sharedCount (pairSaid (plannedArcs table) reply) ≡ floor (routesOf table q)) × (total (pairSaid (plannedArcs table) reply) ≤ 2 * ofRank (routesOf table q) (rankedIn reply) .metres)))
     call-settled = rw (replied answered, c .number-is) (promised.settled-exactly table q (length before) (low answered))
 
     -- an allowance of at least N settles
@@ -99,7 +103,7 @@ module _ {table : List ℕ} {q : Request} {before now : List ℕ} {number : ℕ}
 
     -- settled: no two ways within reach do better than what the bytes say
     pub call-no-better : number ≡ 0 → (u v : List ℕ) → WayOf table q u → WayOf table q v
-        → NoWorse (sharedIn reply) (totalIn reply) (sharedCount (pairMadeOf (arcsOf table) u v)) (total (pairMadeOf (arcsOf table) u v))
+        → NoWorse (sharedIn reply) (totalIn reply) (sharedCount (pairMadeOf (plannedArcs table) u v)) (total (pairMadeOf (plannedArcs table) u v))
     call-no-better e = rw (replied answered) (promised.settled-no-better table q (length before) (low answered) (zero-is e))
 
   -- ==== Request T-10
@@ -115,7 +119,7 @@ module _ {table : List ℕ} {q : Request} {before now : List ℕ} {number : ℕ}
   -- ==== Request T-02
 
   -- once the checks before have passed, the number is n + 256 i exactly where arc i has the fault of number n as its first and every arc below i is sound
-  pub call-names : ((t i : ℕ) → t < 9 → Applies table q (length before) t i → ⊥) → (n i : ℕ) → 20 ≤ n → n ≤ 23 → (number ≡ n + 256 * i) ↔ LowestFault (arcsOf table) i n
+  pub call-names : ((t i : ℕ) → t < 9 → Applies table q (length before) t i → ⊥) → (n i : ℕ) → 20 ≤ n → n ≤ 22 → (number ≡ n + 256 * i) ↔ LowestFault (arcsOf table) i n
   call-names = rw (c .number-is) (promised.arc-named table q (length before))
 
   -- any number past 10, taken apart
@@ -125,6 +129,23 @@ module _ {table : List ℕ} {q : Request} {before now : List ℕ} {number : ℕ}
   -- number 9 has ended: it is returned for no call
   pub call-never-nine : number ≡ 9 → ⊥
   call-never-nine e = promised.never-nine table q (length before) (sym (c .number-is) ∙ e)
+
+  -- ==== Request T-03
+
+  -- at most 95 are shared, and at most 31 of them are spans
+  pub call-most : number < 2 → (sharedIn reply ≤ mostShared) × (sharedSpansIn reply ≤ mostArcs)
+  call-most h = rw (replied h) (promised.reply-most table q (length before) (low h))
+
+  -- a table with no span number: the number and the buffer are those of the answer with spans left out
+  pub call-as-before : ((k : ℕ) → k < length (arcsOf table) → arcAt (arcsOf table) k .span ≡ 0)
+      → (number ≡ answerByRisks table q (length before) .number) × (now ≡ after (answerByRisks table q (length before)) before)
+  call-as-before none =
+      let same = promised.as-before table q (length before) none in
+      (c .number-is ∙ ap (λ (a : Answer). a .number) same, c .buffer-is ∙ ap (λ (a : Answer). after a before) same)
+
+  -- number 23 has ended: it is returned for no call, of whichever arc
+  pub call-never-twenty-three : (i : ℕ) → number ≡ 23 + 256 * i → ⊥
+  call-never-twenty-three i e = promised.never-twenty-three table q (length before) i (sym (c .number-is) ∙ e)
 
 -- two calls on the same buffer, the second with a larger permitted allowance
 module _ {table : List ℕ} {q : Request} {b : ℕ} {before now later : List ℕ} {first second : ℕ} (c : Called table q before first now) (d : Called table (allowing q b) before second later)
@@ -137,7 +158,7 @@ module _ {table : List ℕ} {q : Request} {b : ℕ} {before now later : List ℕ
 
   -- settled or stopped: answered, no worse, and by the whole judgement no later
   pub call-never-worse : (second < 2) × NoWorse (sharedIn (take replySize later)) (totalIn (take replySize later)) (sharedIn (take replySize now)) (totalIn (take replySize now))
-      × (judged (pairSaid (arcsOf table) (take replySize now)) (pairSaid (arcsOf table) (take replySize later)) ≡ false)
+      × (judged (pairSaid (plannedArcs table) (take replySize now)) (pairSaid (plannedArcs table) (take replySize later)) ≡ false)
   call-never-worse =
       let w = promised.never-worse table q (length before) (low c answered) b more permitted in
       let too : second < 2 = omega (arith, d .number-is, w .0) in
@@ -212,8 +233,8 @@ module _ {input table₀ list₀ : List ℕ} {number tableLength listLength : �
       λ z. promised.unlisted-exactly input .1 (sym list-in ∙ ap (λ (n : ℕ). take n list) z),
     )
 
-    -- each arc that is kept is the input's, but for zeroed spare bytes
-    pub mend-kept : (old new : ℕ) → KeptAs input old new → (new < length mendedIn / 16) × (recordAt mendedIn new ≡ zeroed (recordAt input old))
+    -- each arc that is kept is the input's, byte for byte
+    pub mend-kept : (old new : ℕ) → KeptAs input old new → (new < length mendedIn / 16) × (recordAt mendedIn new ≡ recordAt input old)
     mend-kept = rw table-in (promised.kept-record input)
 
     -- ---- the list

@@ -1,11 +1,11 @@
 -- Mending, the list: read back from its bytes, what stands in it and in which order, and the old number of each arc that is kept. Assumes nothing.
 use mathlib.Core.Path.{_≡_, refl, sym, ap, _∙_, subst}
 use mathlib.Core.Logic.{_⊎_, inl, inr}
-use mathlib.Core.Bool.{Bool, true, false, true≢false, false≢true, and-false}
+use mathlib.Core.Bool.{Bool, true, false, true≢false, false≢true}
 use mathlib.Core.List.{List, [], _∷_, _++_, map, flatMap, List·Memᴰ, List·Memᴰ·head, List·Memᴰ·tail, List·Memᴰ·not-nil, List·Memᴰ·append-cases, List·Memᴰ·eq-of-singleton, Memᴰ·cast, Memᴰ·append-left, Memᴰ·append-right, Memᴰ·map, Memᴰ·of-map}
 use Prim.Native.Nat.{ℕ, zero, suc, _+_, _*_, _/_, _%_, _≤_, _<_}
 use native.Mathlib.Omega.{arith}
-use lib.Dec.{eqb, leb, ltb}
+use lib.Dec.{eqb, ltb}
 use lib.ListN.{length, getD, length-take}
 use lib.Seq.{getD-take}
 use borrow.Author.Tests.{eqb-true, eqb-false, eq-eqb, ne-eqb, ltb-true, ltb-false, lt-ltb, le-ltb, le-leb, lt-leb}
@@ -13,11 +13,11 @@ use Rattle.laws.specs.Choosing.{if_then_else_, numbersFrom, keep, Pairwise}
 use Rattle.laws.proofs.ListLaws.{getD-mem, keep-in, keep-out, keep-none, keep-first, keep-past, length-keep, pairwise-append, pairwise-keep, pairwise-map}
 use Rattle.laws.proofs.RowLaws.{numbers-in, numbers-out, numbers-rise, map-numbers, flat-length, flat-at}
 use Rattle.problem.specs.declared.Fault.{Fault}
-use Rattle.problem.specs.declared.Fault.the-variants.{Sound, Node, EqualEnds, Length, Spare}
+use Rattle.problem.specs.declared.Fault.the-variants.{Sound, Node, EqualEnds, Length}
 use Rattle.problem.specs.declared.Reason.{Reason}
-use Rattle.problem.specs.declared.Reason.the-variants.{Unchanged, BadNode, SameEnds, TooLong, SpareUsed, PastLimit}
+use Rattle.problem.specs.declared.Reason.the-variants.{Unchanged, BadNode, SameEnds, TooLong, PastLimit}
 use Rattle.problem.specs.Table.{mostInTable, numberAt, bytesOf, recordAt, arcsOf, faultNumber, arcNumber}
-use Rattle.problem.specs.Mending.{mostFieldBytes, Clean, wholeArcs, faultAt, mayStay, stays, newNumber, stayingBelow, keptArcs, reasonFor, reasonAt, reasonNumber, isListed, isLost, noNumber, Change, changed, tornEnd, isChanged, changeAt, changesFrom, changes, changeBytes, mendedList, changeIn, changesIn, oldNumber, KeptAs, lost, Listed}
+use Rattle.problem.specs.Mending.{mostFieldBytes, Clean, wholeArcs, faultAt, mayStay, stays, newNumber, stayingBelow, keptArcs, reasonFor, reasonAt, reasonNumber, isLost, noNumber, Change, changed, tornEnd, isChanged, changeAt, changesFrom, changes, changeBytes, mendedList, changeIn, changesIn, oldNumber, KeptAs, lost, Listed}
 use Rattle.problem.proofs.FaultLaws.{faultless-number}
 use Rattle.problem.proofs.TableLaws.{arcs-length, arcs-at, number-sound}
 use Rattle.problem.proofs.MendLaws.{new-below, new-more, new-same, kept-at, clean-sound}
@@ -52,14 +52,10 @@ read-back cs fit =
     ∙ map-numbers (lost 0 0) (λ k. changeIn (recordAt (flatMap changeBytes cs) k)) cs (λ i h.
     ap changeIn (flat-at 16 changeBytes (lost 0 0) cs (λ c m. change-length c) i h) ∙ change-back _ (fit _ (getD-mem (lost 0 0) cs i h)))
 
--- a lost arc at x or before it puts x one further on; a kept one, or one behind x, leaves it where it is
+-- a lost arc at x or before it puts x one further on; one behind x leaves it where it is
 old-lost : (c : Change) (cs : List Change) (x : ℕ) → c .new ≡ noNumber → c .old ≤ x → oldNumber (c ∷ cs) x ≡ oldNumber cs (suc x)
 unfolding oldNumber
 old-lost c cs x e h = rw (le-leb (c .old) x h, eq-eqb (c .new) noNumber e)
-
-old-kept : (c : Change) (cs : List Change) (x : ℕ) → (c .new ≡ noNumber → ⊥) → oldNumber (c ∷ cs) x ≡ oldNumber cs x
-unfolding oldNumber
-old-kept c cs x e = rw (ne-eqb (c .new) noNumber e, and-false (leb (c .old) x))
 
 old-later : (cs : List Change) (x : ℕ) → ((c : Change) → List·Memᴰ c cs → x < c .old) → oldNumber cs x ≡ x
 unfolding oldNumber
@@ -68,12 +64,11 @@ old-later (c ∷ cs) x f = rw (lt-leb (c .old) x (f c (List·Memᴰ·head refl))
 
 -- ---- the reason of one arc
 
--- what is removed is lost, and stands in the list
-pub removed-lost : (f : Fault) (n : ℕ) → mayStay f ≡ false → (isLost (reasonFor f n) ≡ true) × (isListed (reasonFor f n) ≡ true)
-removed-lost Node n e = (refl, refl)
-removed-lost EqualEnds n e = (refl, refl)
-removed-lost Length n e = (refl, refl)
-removed-lost Spare n e = absurd (true≢false e)
+-- what is removed is lost
+pub removed-lost : (f : Fault) (n : ℕ) → mayStay f ≡ false → isLost (reasonFor f n) ≡ true
+removed-lost Node n e = refl
+removed-lost EqualEnds n e = refl
+removed-lost Length n e = refl
 removed-lost Sound n e = absurd (true≢false e)
 
 -- what stays within the limit is kept, and what stays past it is lost
@@ -81,14 +76,12 @@ pub kept-reason : (f : Fault) (n : ℕ) → mayStay f ≡ true → n < mostInTab
 kept-reason Node n e h = absurd (false≢true e)
 kept-reason EqualEnds n e h = absurd (false≢true e)
 kept-reason Length n e h = absurd (false≢true e)
-kept-reason Spare n e h = rw (lt-ltb n mostInTable h)
 kept-reason Sound n e h = rw (lt-ltb n mostInTable h)
 
 pub past-reason : (f : Fault) (n : ℕ) → mayStay f ≡ true → mostInTable ≤ n → reasonFor f n ≡ PastLimit
 past-reason Node n e h = absurd (false≢true e)
 past-reason EqualEnds n e h = absurd (false≢true e)
 past-reason Length n e h = absurd (false≢true e)
-past-reason Spare n e h = rw (le-ltb n mostInTable h)
 past-reason Sound n e h = rw (le-ltb n mostInTable h)
 
 -- ---- the list of one input
@@ -109,10 +102,9 @@ module _ (input : List ℕ) where
       let inside = numbers-out k m (kept .0) in
       record { at = o .0; from = inside .0; below = inside .1; has = kept .1; is = o .2 }
 
-  -- what becomes of a whole arc: it is lost, for a reason that the request gives; or kept, its spare bytes made zero; or kept as it is
+  -- what becomes of a whole arc: it is lost, for a reason that the request gives, or kept as it is
   data Lot (k : ℕ) : Type 0 where
     goes : (reason : ℕ) → Listed input (lost k reason) → isChanged input k ≡ true → changeAt input k ≡ lost k reason → Lot k
-    zeroed-here : KeptAs input k (newNumber input k) → faultAt input k ≡ Spare → isChanged input k ≡ true → changeAt input k ≡ record { old = k; reason = 4; new = newNumber input k } → Lot k
     as-it-is : KeptAs input k (newNumber input k) → faultAt input k ≡ Sound → isChanged input k ≡ false → Lot k
 
   module _ (k : ℕ) (h : k < wholeArcs input) where
@@ -120,31 +112,27 @@ module _ (input : List ℕ) where
     by-fault : {f : Fault} → faultAt input k ≡ f → reasonAt input k ≡ reasonFor f (newNumber input k)
     by-fault e = ap (λ (g : Fault). reasonFor g (newNumber input k)) e
 
-    goes-by : (r : Reason) → reasonAt input k ≡ r → isListed r ≡ true → isLost r ≡ true → Listed input (lost k (reasonNumber r)) → Lot k
-    goes-by r e listed lost-then l =
-        Lot.goes (reasonNumber r) l (ap isListed e ∙ listed)
+    goes-by : (r : Reason) → reasonAt input k ≡ r → isLost r ≡ true → Listed input (lost k (reasonNumber r)) → Lot k
+    goes-by r e lost-then l =
+        Lot.goes (reasonNumber r) l (ap isLost e ∙ lost-then)
         (ap (λ (s : Reason). changed k s (newNumber input k)) e ∙ ap (λ (b : Bool). record { old = k; reason = reasonNumber r; new = if b then noNumber else newNumber input k }) lost-then)
 
     kept-here : {f : Fault} → faultAt input k ≡ f → mayStay f ≡ true → newNumber input k < mostInTable → KeptAs input k (newNumber input k)
     kept-here e s room = record { is-whole = h; may-stay = ap mayStay e ∙ s; in-turn = refl; has-room = room }
 
     past-here : {f : Fault} → faultAt input k ≡ f → mayStay f ≡ true → mostInTable ≤ newNumber input k → Lot k
-    past-here {f} e s past = goes-by PastLimit (by-fault e ∙ past-reason f (newNumber input k) s past) refl refl (Listed.past-limit k h (ap mayStay e ∙ s) past)
+    past-here {f} e s past = goes-by PastLimit (by-fault e ∙ past-reason f (newNumber input k) s past) refl (Listed.past-limit k h (ap mayStay e ∙ s) past)
 
     lot : Lot k
     lot = go (faultAt input k) refl (ltb (newNumber input k) mostInTable) refl
       where
         go : (f : Fault) → faultAt input k ≡ f → (b : Bool) → ltb (newNumber input k) mostInTable ≡ b → Lot k
-        go Node e b t = goes-by BadNode (by-fault e) refl refl (Listed.bad-node k h e)
-        go EqualEnds e b t = goes-by SameEnds (by-fault e) refl refl (Listed.equal-ends k h e)
-        go Length e b t = goes-by TooLong (by-fault e) refl refl (Listed.bad-length k h e)
-        go Spare e true t =
-            let is : reasonAt input k ≡ SpareUsed = by-fault e ∙ rw t in
-            Lot.zeroed-here (kept-here e refl (ltb-true _ _ t)) e (ap isListed is) (ap (λ (r : Reason). changed k r (newNumber input k)) is)
+        go Node e b t = goes-by BadNode (by-fault e) refl (Listed.bad-node k h e)
+        go EqualEnds e b t = goes-by SameEnds (by-fault e) refl (Listed.equal-ends k h e)
+        go Length e b t = goes-by TooLong (by-fault e) refl (Listed.bad-length k h e)
         go Sound e true t =
             let is : reasonAt input k ≡ Unchanged = by-fault e ∙ rw t in
-            Lot.as-it-is (kept-here e refl (ltb-true _ _ t)) e (ap isListed is)
-        go Spare e false t = past-here e refl (ltb-false _ _ t)
+            Lot.as-it-is (kept-here e refl (ltb-true _ _ t)) e (ap isLost is)
         go Sound e false t = past-here e refl (ltb-false _ _ t)
 
   -- what becomes of the input's end: it is whole, or torn
@@ -177,7 +165,6 @@ module _ (input : List ℕ) where
   -- what stands in the list is what the request says
   whole-listed : {k : ℕ} → Lot k → isChanged input k ≡ true → Listed input (changeAt input k)
   whole-listed (Lot.goes reason l c is) e = subst (Listed input) (sym is) l
-  whole-listed (Lot.zeroed-here kept f c is) e = subst (Listed input) (sym is) (Listed.spare-zeroed _ _ kept f)
   whole-listed (Lot.as-it-is kept f c) e = absurd (true≢false (sym e ∙ c))
 
   pub listed-out : {c : Change} → List·Memᴰ c (changes input) → Listed input c
@@ -191,22 +178,18 @@ module _ (input : List ℕ) where
       go (inr q) = let t = torn-out q in subst (Listed input) (sym (t .0)) (Listed.torn-end (t .1))
 
   -- and what the request says stands in the list
-  listed-whole : (k : ℕ) → k < wholeArcs input → {r : Reason} → reasonAt input k ≡ r → isListed r ≡ true → List·Memᴰ (changed k r (newNumber input k)) (changes input)
+  listed-whole : (k : ℕ) → k < wholeArcs input → {r : Reason} → reasonAt input k ≡ r → isLost r ≡ true → List·Memᴰ (changed k r (newNumber input k)) (changes input)
   unfolding changes
   listed-whole k h {r} e l =
       Memᴰ·append-left (tornEnd input)
       (Memᴰ·cast (ap (λ (s : Reason). changed k s (newNumber input k)) (sym e))
-      (Memᴰ·map (changeAt input) (keep-in (isChanged input) (numbersFrom 0 (wholeArcs input)) (numbers-in 0 (wholeArcs input) (omega arith) (omega arith)) (ap isListed e ∙ l))))
+      (Memᴰ·map (changeAt input) (keep-in (isChanged input) (numbersFrom 0 (wholeArcs input)) (numbers-in 0 (wholeArcs input) (omega arith) (omega arith)) (ap isLost e ∙ l))))
 
   pub listed-in : {c : Change} → Listed input c → List·Memᴰ c (changes input)
   unfolding changes
   listed-in (Listed.bad-node k h e) = listed-whole k h {r = BadNode} (by-fault k h e) refl
   listed-in (Listed.equal-ends k h e) = listed-whole k h {r = SameEnds} (by-fault k h e) refl
   listed-in (Listed.bad-length k h e) = listed-whole k h {r = TooLong} (by-fault k h e) refl
-  listed-in (Listed.spare-zeroed k new a e) =
-      let room : newNumber input k < mostInTable = omega (arith, a .in-turn, a .has-room) in
-      Memᴰ·cast (ap (λ (n : ℕ). record { old = k; reason = 4; new = n }) (sym (a .in-turn)))
-      (listed-whole k (a .is-whole) {r = SpareUsed} (by-fault k (a .is-whole) e ∙ rw (lt-ltb (newNumber input k) mostInTable room)) refl)
   listed-in (Listed.past-limit k h s p) = listed-whole k h {r = PastLimit} (past-reason (faultAt input k) (newNumber input k) s p) refl
   listed-in (Listed.torn-end t) = Memᴰ·append-right (changesFrom input 0 (wholeArcs input)) (rw (torn-end t) (List·Memᴰ·head refl))
 
@@ -234,7 +217,6 @@ module _ (input : List ℕ) where
   listed-fits s (Listed.bad-node k h e) = record { old-fits = omega arith; new-fits = omega arith }
   listed-fits s (Listed.equal-ends k h e) = record { old-fits = omega arith; new-fits = omega arith }
   listed-fits s (Listed.bad-length k h e) = record { old-fits = omega arith; new-fits = omega arith }
-  listed-fits s (Listed.spare-zeroed k new a e) = record { old-fits = omega (arith, a .is-whole); new-fits = omega (arith, a .has-room) }
   listed-fits s (Listed.past-limit k h e p) = record { old-fits = omega arith; new-fits = omega arith }
   listed-fits s (Listed.torn-end t) = record { old-fits = omega arith; new-fits = omega arith }
 
@@ -263,20 +245,14 @@ module _ (input : List ℕ) where
   unfolding numbersFrom
   past-removed m k x behind e h =
       let r = removed-lost (faultAt input k) (newNumber input k) e in
-      ap (λ (l : List ℕ). oldNumber (map (changeAt input) l ++ behind) x) (keep-first (isChanged input) k (numbersFrom (suc k) m) (r .1))
-      ∙ old-lost (changeAt input k) (onFrom (suc k) m behind) x (rw (r .0)) h
+      ap (λ (l : List ℕ). oldNumber (map (changeAt input) l ++ behind) x) (keep-first (isChanged input) k (numbersFrom (suc k) m) r)
+      ∙ old-lost (changeAt input k) (onFrom (suc k) m behind) x (rw r) h
 
   -- one that is kept leaves it where it is
   past-kept : (m k x : ℕ) (behind : List Change) → stays input k ≡ true → newNumber input k < mostInTable → oldNumber (onFrom k (suc m) behind) x ≡ oldNumber (onFrom (suc k) m behind) x
-  unfolding numbersFrom keep
-  past-kept m k x behind e room = go (isChanged input k) refl
-    where
-      new : changeAt input k .new ≡ newNumber input k
-      new = rw (kept-reason (faultAt input k) (newNumber input k) e room)
-
-      go : (b : Bool) → isChanged input k ≡ b → oldNumber (onFrom k (suc m) behind) x ≡ oldNumber (onFrom (suc k) m behind) x
-      go true l = rw (l, keep) (old-kept (changeAt input k) (onFrom (suc k) m behind) x (λ z. omega (arith, new)))
-      go false l = rw (l, keep)
+  unfolding numbersFrom
+  past-kept m k x behind e room =
+      ap (λ (l : List ℕ). oldNumber (map (changeAt input) l ++ behind) x) (keep-past (isChanged input) k (numbersFrom (suc k) m) (kept-reason (faultAt input k) (newNumber input k) e room))
 
   -- of the arcs in l, the one d places on is found from k + d on, where the limit is not yet reached
   abbrev FoundAmong : List ℕ → List Change → (k m d : ℕ) → Type 0
@@ -340,7 +316,6 @@ module _ (input : List ℕ) where
     where
       go : Lot k → KeptAs input k (newNumber input k) ⊎ ((reason : ℕ) × Listed input (lost k reason))
       go (Lot.goes reason l c is) = inr (reason, l)
-      go (Lot.zeroed-here kept f c is) = inl kept
       go (Lot.as-it-is kept f c) = inl kept
 
   -- ---- an empty list
@@ -368,7 +343,6 @@ module _ (input : List ℕ) where
       where
         go : Lot k → KeptAs input k (newNumber input k) × (faultAt input k ≡ Sound)
         go (Lot.goes reason l c is) = absurd (none _ l)
-        go (Lot.zeroed-here kept f c is) = absurd (none _ (Listed.spare-zeroed k _ kept f))
         go (Lot.as-it-is kept f c) = (kept, f)
 
     unlisted-few : wholeArcs input ≤ mostInTable

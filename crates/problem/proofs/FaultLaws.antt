@@ -1,17 +1,17 @@
 -- An arc's faults: the first is one that it has, and it has none before that; a sound arc has none. Of several arcs, the lowest that has one. Assumes nothing.
 use mathlib.Core.Path.{_≡_, refl, sym, ap, _∙_, subst}
 use mathlib.Core.Logic.{_↔_}
-use mathlib.Core.Bool.{Bool, true, false, _||_, not, or-true}
+use mathlib.Core.Bool.{Bool, true, false, _||_, or-true}
 use mathlib.Core.List.{List, []}
 use Prim.Native.Nat.{ℕ, _+_, _*_, _≤_, _<_}
 use native.Mathlib.Omega.{arith}
 use lib.Dec.{eqb, ltb}
 use lib.ListN.{length}
-use borrow.Author.Tests.{ltb-true, lt-ltb, eqb-true, eqb-false, eq-eqb, ne-eqb}
+use borrow.Author.Tests.{ltb-true, lt-ltb, eqb-true, eq-eqb}
 use Rattle.laws.specs.Choosing.{if_then_else_}
 use Rattle.problem.specs.declared.Arc.{Arc}
 use Rattle.problem.specs.declared.Fault.{Fault}
-use Rattle.problem.specs.declared.Fault.the-variants.{Sound, Node, EqualEnds, Length, Spare}
+use Rattle.problem.specs.declared.Fault.the-variants.{Sound, Node, EqualEnds, Length}
 use Rattle.problem.specs.Table.{lastNode, mostArcMetres, SoundArc, HasFault, faultOf, faultNumber, arcNumber, arcsNumber}
 use Rattle.problem.specs.Routes.{arcAt}
 use Rattle.problem.specs.Calls.{LowestFault}
@@ -20,30 +20,24 @@ use Rattle.problem.proofs.ToldLaws.{FirstAt, first-told, none-told, non
 -- ---- of one arc
 
 -- what the definition's tests lead to
-abbrev tested : (node ends length spare : Bool) → Fault
-tested n e m s = if n then Node else (if e then EqualEnds else (if m then Length else (if s then Spare else Sound)))
+abbrev tested : (node ends length : Bool) → Fault
+tested n e m = if n then Node else (if e then EqualEnds else (if m then Length else Sound))
 
 -- one fault comes no later than another
 abbrev NoLater : Fault → Fault → Type 0
 NoLater f g = (20 ≤ faultNumber f) × (faultNumber f ≤ faultNumber g)
 
-at-node : (e m s : Bool) → NoLater (tested true e m s) Node
-at-node e m s = (omega arith, omega arith)
+at-node : (e m : Bool) → NoLater (tested true e m) Node
+at-node e m = (omega arith, omega arith)
 
-at-ends : (n m s : Bool) → NoLater (tested n true m s) EqualEnds
-at-ends true m s = (omega arith, omega arith)
-at-ends false m s = (omega arith, omega arith)
+at-ends : (n m : Bool) → NoLater (tested n true m) EqualEnds
+at-ends true m = (omega arith, omega arith)
+at-ends false m = (omega arith, omega arith)
 
-at-length : (n e s : Bool) → NoLater (tested n e true s) Length
-at-length true e s = (omega arith, omega arith)
-at-length false true s = (omega arith, omega arith)
-at-length false false s = (omega arith, omega arith)
-
-at-spare : (n e m : Bool) → NoLater (tested n e m true) Spare
-at-spare true e m = (omega arith, omega arith)
-at-spare false true m = (omega arith, omega arith)
-at-spare false false true = (omega arith, omega arith)
-at-spare false false false = (omega arith, omega arith)
+at-length : (n e : Bool) → NoLater (tested n e true) Length
+at-length true e = (omega arith, omega arith)
+at-length false true = (omega arith, omega arith)
+at-length false false = (omega arith, omega arith)
 
 module _ (a : Arc) where
   abbrev node : Bool
@@ -55,31 +49,26 @@ module _ (a : Arc) where
   abbrev long : Bool
   long = ltb mostArcMetres (a .metres)
 
-  abbrev spare : Bool
-  spare = not (eqb (a .spare) 0)
-
-  had : (t h e m s : Bool) → ltb lastNode (a .tail) ≡ t → ltb lastNode (a .head) ≡ h → eqb (a .tail) (a .head) ≡ e → ltb mostArcMetres (a .metres) ≡ m → eqb (a .spare) 0 ≡ s
-      → (faultNumber (tested (t || h) e m (not s)) ≡ 0 → ⊥) → HasFault a (tested (t || h) e m (not s))
-  had true h e m s is-t is-h is-e is-m is-s f = HasFault.tail-too-high (ltb-true _ _ is-t)
-  had false true e m s is-t is-h is-e is-m is-s f = HasFault.head-too-high (ltb-true _ _ is-h)
-  had false false true m s is-t is-h is-e is-m is-s f = HasFault.ends-equal (eqb-true _ _ is-e)
-  had false false false true s is-t is-h is-e is-m is-s f = HasFault.too-long (ltb-true _ _ is-m)
-  had false false false false false is-t is-h is-e is-m is-s f = HasFault.spare-used (eqb-false _ _ is-s)
-  had false false false false true is-t is-h is-e is-m is-s f = absurd (f refl)
+  had : (t h e m : Bool) → ltb lastNode (a .tail) ≡ t → ltb lastNode (a .head) ≡ h → eqb (a .tail) (a .head) ≡ e → ltb mostArcMetres (a .metres) ≡ m
+      → (faultNumber (tested (t || h) e m) ≡ 0 → ⊥) → HasFault a (tested (t || h) e m)
+  had true h e m is-t is-h is-e is-m f = HasFault.tail-too-high (ltb-true _ _ is-t)
+  had false true e m is-t is-h is-e is-m f = HasFault.head-too-high (ltb-true _ _ is-h)
+  had false false true m is-t is-h is-e is-m f = HasFault.ends-equal (eqb-true _ _ is-e)
+  had false false false true is-t is-h is-e is-m f = HasFault.too-long (ltb-true _ _ is-m)
+  had false false false false is-t is-h is-e is-m f = absurd (f refl)
 
   -- the first fault is one that the arc has
   pub fault-had : (arcNumber a ≡ 0 → ⊥) → HasFault a (faultOf a)
   unfolding faultOf
-  fault-had = had (ltb lastNode (a .tail)) (ltb lastNode (a .head)) (eqb (a .tail) (a .head)) (ltb mostArcMetres (a .metres)) (eqb (a .spare) 0) refl refl refl refl refl
+  fault-had = had (ltb lastNode (a .tail)) (ltb lastNode (a .head)) (eqb (a .tail) (a .head)) (ltb mostArcMetres (a .metres)) refl refl refl refl
 
   -- and none that it has comes before
   pub fault-first : {g : Fault} → HasFault a g → (20 ≤ arcNumber a) × (arcNumber a ≤ faultNumber g)
   unfolding faultOf
-  fault-first (HasFault.tail-too-high h) = rw (lt-ltb lastNode (a .tail) h) (at-node ends long spare)
-  fault-first (HasFault.head-too-high h) = rw (lt-ltb lastNode (a .head) h, or-true (ltb lastNode (a .tail))) (at-node ends long spare)
-  fault-first (HasFault.ends-equal h) = rw (eq-eqb (a .tail) (a .head) h) (at-ends node long spare)
-  fault-first (HasFault.too-long h) = rw (lt-ltb mostArcMetres (a .metres) h) (at-length node ends spare)
-  fault-first (HasFault.spare-used h) = rw (ne-eqb (a .spare) 0 h) (at-spare node ends long)
+  fault-first (HasFault.tail-too-high h) = rw (lt-ltb lastNode (a .tail) h) (at-node ends long)
+  fault-first (HasFault.head-too-high h) = rw (lt-ltb lastNode (a .head) h, or-true (ltb lastNode (a .tail))) (at-node ends long)
+  fault-first (HasFault.ends-equal h) = rw (eq-eqb (a .tail) (a .head) h) (at-ends node long)
+  fault-first (HasFault.too-long h) = rw (lt-ltb mostArcMetres (a .metres) h) (at-length node ends)
 
 -- no two faults have the same number
 fault-of : ℕ → Fault
@@ -87,8 +76,7 @@ fault-of n =
     if eqb n (faultNumber Node) then Node
     else (if eqb n (faultNumber EqualEnds) then EqualEnds
     else (if eqb n (faultNumber Length) then Length
-    else (if eqb n (faultNumber Spare) then Spare
-    else Sound)))
+    else Sound))
 
 of-number : (f : Fault) → fault-of (faultNumber f) ≡ f
 unfolding fault-of
@@ -96,7 +84,6 @@ of-number Sound = refl
 of-number Node = refl
 of-number EqualEnds = refl
 of-number Length = refl
-of-number Spare = refl
 
 same-fault : {f g : Fault} → faultNumber f ≡ faultNumber g → f ≡ g
 same-fault {f} {g} e = sym (of-number f) ∙ ap fault-of e ∙ of-number g
@@ -117,12 +104,11 @@ first-exactly a f faulty = (to, from)
         let not-less : arcNumber a < faultNumber f → ⊥ = λ l. h .1 (faultOf a) l (fault-had a (λ z. omega (arith, first .0))) in
         same-fault (omega (arith, first .1))
 
-pub fault-range : (f : Fault) → faultNumber f ≤ 23
+pub fault-range : (f : Fault) → faultNumber f ≤ 22
 fault-range Sound = omega arith
 fault-range Node = omega arith
 fault-range EqualEnds = omega arith
 fault-range Length = omega arith
-fault-range Spare = omega arith
 
 -- a sound arc has none
 pub sound-none : {a : Arc} {f : Fault} → SoundArc a → HasFault a f → ⊥
@@ -130,7 +116,6 @@ sound-none s (HasFault.tail-too-high h) = omega (arith, s .tail-node)
 sound-none s (HasFault.head-too-high h) = omega (arith, s .head-node)
 sound-none s (HasFault.ends-equal h) = s .ends-differ h
 sound-none s (HasFault.too-long h) = omega (arith, s .metres-range)
-sound-none s (HasFault.spare-used h) = h (s .spare-zero)
 
 -- and an arc that has none is sound
 pub none-sound : (a : Arc) → ((f : Fault) → HasFault a f → ⊥) → SoundArc a
@@ -138,13 +123,11 @@ none-sound a none =
     let low-tail : lastNode < a .tail → ⊥ = λ h. none _ (HasFault.tail-too-high h) in
     let low-head : lastNode < a .head → ⊥ = λ h. none _ (HasFault.head-too-high h) in
     let short : mostArcMetres < a .metres → ⊥ = λ h. none _ (HasFault.too-long h) in
-    let unused : 0 < a .spare → ⊥ = λ h. none _ (HasFault.spare-used (λ z. omega arith)) in
     record {
       tail-node = omega arith;
       head-node = omega arith;
       ends-differ = λ h. none _ (HasFault.ends-equal h);
       metres-range = omega arith;
-      spare-zero = omega arith;
     }
 
 pub sound-arc : (a : Arc) → arcNumber a ≡ 0 → SoundArc a

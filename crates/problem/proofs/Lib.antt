@@ -3,6 +3,7 @@ pub mod ExposureLaws
 pub mod ToldLaws
 pub mod FaultLaws
 pub mod TableLaws
+pub mod SpanLaws
 pub mod RouteLaws
 pub mod PathLaws
 pub mod GrowthLaws

@@ -1,6 +1,5 @@
 -- Mending, the table: what is kept and where it stands, that it is clean, and that a clean table stays as it is. Assumes nothing.
-use mathlib.Core.Path.{_≡_, refl, sym, ap, ap₂, _∙_, subst}
-use mathlib.Core.Logic.{_⊎_, inl, inr}
+use mathlib.Core.Path.{_≡_, refl, sym, ap, _∙_, subst}
 use mathlib.Core.Bool.{true, false, false≢true}
 use mathlib.Core.List.{List, [], _∷_, _++_, List·Memᴰ}
 use Prim.Native.Nat.{ℕ, zero, suc, _+_, _*_, _/_, _≤_, _<_}
@@ -12,77 +11,21 @@ use Rattle.laws.specs.Choosing.{numbersFrom, keep}
 use Rattle.laws.proofs.ListLaws.{getD-mem, take-mem, keep-out, length-keep}
 use Rattle.laws.proofs.FoldLaws.{keep-all}
 use Rattle.laws.proofs.RowLaws.{PassingAt, numbers-length, numbers-out, passing-next, passing-same, passing-more, passing-below, passing-place, passing-at, flat-length, flat-at}
-use Rattle.problem.specs.declared.Arc.{Arc}
 use Rattle.problem.specs.declared.Fault.{Fault}
-use Rattle.problem.specs.declared.Fault.the-variants.{Sound, Node, EqualEnds, Length, Spare}
-use Rattle.problem.specs.Table.{mostInTable, recordAt, arcOf, arcsOf, SoundArc, HasFault, faultOf, faultNumber, arcNumber, numberAt}
+use Rattle.problem.specs.declared.Fault.the-variants.{Sound, Node, EqualEnds, Length}
+use Rattle.problem.specs.Table.{mostInTable, recordAt, arcOf, arcsOf, SoundArc, faultOf, faultNumber, arcNumber}
 use Rattle.problem.specs.Routes.{arcAt}
-use Rattle.problem.specs.Mending.{Clean, wholeArcs, faultAt, mayStay, stays, stayingBelow, newNumber, keptArcs, zeroed, mendedTable, KeptAs}
-use Rattle.problem.proofs.FaultLaws.{fault-first, none-sound, arc-sound, faultless-number, fault-sound}
+use Rattle.problem.specs.Mending.{Clean, wholeArcs, faultAt, mayStay, stays, stayingBelow, newNumber, keptArcs, mendedTable, KeptAs}
+use Rattle.problem.proofs.FaultLaws.{arc-sound, faultless-number, fault-sound}
 use Rattle.problem.proofs.TableLaws.{arcs-length, arcs-at, number-sound, sound-at}
 
--- ---- a record with its spare bytes made zero
+-- ---- what stays
 
--- the arc without them
-abbrev spareless : Arc → Arc
-spareless a = record { tail = a .tail; head = a .head; spare = 0; metres = a .metres; risks = a .risks }
-
--- a record begins with its ends and its spare bytes
-pub data Headed : List ℕ → Type 0 where
-  headed : (tail head low high : ℕ) (rest : List ℕ) → Headed (tail ∷ head ∷ low ∷ high ∷ rest)
-
-pub record-headed : (b : List ℕ) → length b ≡ 16 → Headed b
-record-headed [] h = absurd (omega arith)
-record-headed (a ∷ []) h = absurd (omega arith)
-record-headed (a ∷ b ∷ []) h = absurd (omega arith)
-record-headed (a ∷ b ∷ c ∷ []) h = absurd (omega arith)
-record-headed (a ∷ b ∷ c ∷ d ∷ l) h = Headed.headed a b c d l
-
-pub zeroed-length : (b : List ℕ) → length b ≡ 16 → length (zeroed b) ≡ 16
-unfolding zeroed
-zeroed-length b h = go (record-headed b h) h
-  where
-    go : {b : List ℕ} → Headed b → length b ≡ 16 → length (zeroed b) ≡ 16
-    go (Headed.headed tail head low high rest) h = h
-
-zeroed-arc : (b : List ℕ) → length b ≡ 16 → arcOf (zeroed b) ≡ spareless (arcOf b)
-unfolding zeroed arcOf numberAt
-zeroed-arc b h = go (record-headed b h)
-  where
-    go : {b : List ℕ} → Headed b → arcOf (zeroed b) ≡ spareless (arcOf b)
-    go (Headed.headed tail head low high rest) = refl
-
-zeroed-same : (b : List ℕ) → length b ≡ 16 → arcOf b .spare ≡ 0 → zeroed b ≡ b
-unfolding zeroed arcOf numberAt
-zeroed-same b h = go (record-headed b h)
-  where
-    go : {b : List ℕ} → Headed b → arcOf b .spare ≡ 0 → zeroed b ≡ b
-    go (Headed.headed tail head low high rest) e =
-        let low-zero : 0 ≡ low = omega arith in
-        let high-zero : 0 ≡ high = omega arith in
-        ap₂ (λ (x y : ℕ). tail ∷ head ∷ x ∷ y ∷ rest) low-zero high-zero
-
--- what stays has no fault but its spare bytes
-stays-number : (f : Fault) → mayStay f ≡ true → (faultNumber f < 20) ⊎ (22 < faultNumber f)
+stays-number : (f : Fault) → mayStay f ≡ true → faultNumber f ≡ 0
 stays-number Node e = absurd (false≢true e)
 stays-number EqualEnds e = absurd (false≢true e)
 stays-number Length e = absurd (false≢true e)
-stays-number Sound e = inl (omega arith)
-stays-number Spare e = inr (omega arith)
-
-stays-sound : (a : Arc) → mayStay (faultOf a) ≡ true → SoundArc (spareless a)
-stays-sound a e = none-sound (spareless a) (λ f h. none (stays-number (faultOf a) e) (early h))
-  where
-    early : {f : Fault} → HasFault (spareless a) f → (20 ≤ arcNumber a) × (arcNumber a ≤ 22)
-    early (HasFault.tail-too-high h) = let first = fault-first a (HasFault.tail-too-high h) in (first .0, omega (arith, first .1))
-    early (HasFault.head-too-high h) = let first = fault-first a (HasFault.head-too-high h) in (first .0, omega (arith, first .1))
-    early (HasFault.ends-equal h) = let first = fault-first a (HasFault.ends-equal h) in (first .0, omega (arith, first .1))
-    early (HasFault.too-long h) = fault-first a (HasFault.too-long h)
-    early (HasFault.spare-used h) = absurd (h refl)
-
-    none : (arcNumber a < 20) ⊎ (22 < arcNumber a) → (20 ≤ arcNumber a) × (arcNumber a ≤ 22) → ⊥
-    none (inl l) p = omega (arith, p .0)
-    none (inr l) p = omega (arith, p .1)
+stays-number Sound e = refl
 
 -- ---- records one behind another
 
@@ -172,32 +115,32 @@ module _ (input : List ℕ) where
 
   -- ---- the table
 
-  each-zeroed : (k : ℕ) → List·Memᴰ k (keptArcs input) → length (zeroed (recordAt input k)) ≡ 16
-  each-zeroed k m = zeroed-length (recordAt input k) (whole-record (kept-out m .0))
+  each-whole : (k : ℕ) → List·Memᴰ k (keptArcs input) → length (recordAt input k) ≡ 16
+  each-whole k m = whole-record (kept-out m .0)
 
   table-length : length (mendedTable input) ≡ 16 * length (keptArcs input)
   unfolding mendedTable
-  table-length = flat-length 16 (λ k. zeroed (recordAt input k)) (keptArcs input) each-zeroed
+  table-length = flat-length 16 (recordAt input) (keptArcs input) each-whole
 
   pub table-arcs : length (mendedTable input) / 16 ≡ length (keptArcs input)
   table-arcs = omega (arith, table-length)
 
-  table-record : (i : ℕ) → i < length (keptArcs input) → recordAt (mendedTable input) i ≡ zeroed (recordAt input (getD (keptArcs input) i 0))
+  table-record : (i : ℕ) → i < length (keptArcs input) → recordAt (mendedTable input) i ≡ recordAt input (getD (keptArcs input) i 0)
   unfolding mendedTable
-  table-record = flat-at 16 (λ k. zeroed (recordAt input k)) 0 (keptArcs input) each-zeroed
+  table-record = flat-at 16 (recordAt input) 0 (keptArcs input) each-whole
 
-  -- each arc of the table is one of the input's, but for its spare bytes
-  pub kept-record : {old new : ℕ} → KeptAs input old new → (new < length (mendedTable input) / 16) × (recordAt (mendedTable input) new ≡ zeroed (recordAt input old))
+  -- each arc of the table is one of the input's
+  pub kept-record : {old new : ℕ} → KeptAs input old new → (new < length (mendedTable input) / 16) × (recordAt (mendedTable input) new ≡ recordAt input old)
   kept-record k =
       let p = kept-place k in
-      (omega (arith, table-arcs, p .0), table-record _ (p .0) ∙ ap (λ (i : ℕ). zeroed (recordAt input i)) (p .1))
+      (omega (arith, table-arcs, p .0), table-record _ (p .0) ∙ ap (recordAt input) (p .1))
 
   table-sound : (j : ℕ) → j < length (arcsOf (mendedTable input)) → arcNumber (arcAt (arcsOf (mendedTable input)) j) ≡ 0
   table-sound j h =
       let inside : j < length (keptArcs input) = omega (arith, arcs-length (mendedTable input), table-arcs) in
       let old = kept-out (getD-mem 0 (keptArcs input) j inside) in
-      let is = arcs-at (mendedTable input) j (omega (arith, table-length)) ∙ ap arcOf (table-record j inside) ∙ zeroed-arc (recordAt input (getD (keptArcs input) j 0)) (whole-record (old .0)) in
-      ap arcNumber is ∙ arc-sound _ (stays-sound (arcOf (recordAt input (getD (keptArcs input) j 0))) (old .1))
+      let is = arcs-at (mendedTable input) j (omega (arith, table-length)) ∙ ap arcOf (table-record j inside) in
+      ap arcNumber is ∙ stays-number (faultOf (arcOf (recordAt input (getD (keptArcs input) j 0)))) (old .1)
 
   pub table-clean : Clean (mendedTable input)
   table-clean = record {
@@ -233,4 +176,4 @@ module _ (input : List ℕ) where
     pub clean-same : mendedTable input ≡ input
     clean-same =
         records-same (wholeArcs input) (mendedTable input) input (omega (arith, table-length, clean-count)) (omega (arith, clean .whole-arcs))
-        (λ k h. kept-record (clean-kept h) .1 ∙ zeroed-same (recordAt input k) (whole-record h) (clean-arc k h .spare-zero))
+        (λ k h. kept-record (clean-kept h) .1)

@@ -3,7 +3,7 @@ use mathlib.Core.Path.{_≡_, refl, sym, ap, ap₂, _∙_}
 use mathlib.Core.Logic.{_⊎_, inl, inr, _↔_}
 use mathlib.Core.Bool.{Bool, true, false, _&&_, _||_, not, and-false}
 use mathlib.Core.List.{List, [], _∷_, map, List·Memᴰ, List·Memᴰ·head, List·Memᴰ·tail, List·Memᴰ·not-nil, List·Memᴰ·append-cases, Memᴰ·append-left, Memᴰ·append-right, Memᴰ·cast, Memᴰ·map, Memᴰ·of-map, head-eq-of-cons-eq, tail-eq-of-cons-eq}
-use Prim.Native.Nat.{ℕ, _-_, _≤_, _<_}
+use Prim.Native.Nat.{ℕ, _+_, _-_, _≤_, _<_}
 use native.Mathlib.Nat.{add-comm}
 use native.Mathlib.Omega.{arith}
 use lib.Dec.{ltb}
@@ -13,10 +13,10 @@ use Rattle.laws.specs.Choosing.{lexBy}
 use Rattle.laws.specs.Sets.{inBoth}
 use Rattle.laws.proofs.OrderLaws.{Total, Weak, weak-asym, total-weak, keyed-weak, ltb-total, lex-total, lex-false, lex-lt, lex-eq}
 use Rattle.laws.proofs.SortLaws.{Strict, place-order}
-use Rattle.problem.specs.Table.{riskWidth, mostShared}
+use Rattle.problem.specs.Table.{riskWidth, hazards}
 use Rattle.problem.specs.Routes.{Route, rankKey, precedes}
 use Rattle.problem.specs.Exposures.{exposed, toAll, common, sharing}
-use Rattle.problem.specs.Pairs.{Pair, pair, sharedCount, total, judgeKey, judged, NoWorse, pairsOf, noRoute, Step, ofRank, rankedKey, onEvery, floor}
+use Rattle.problem.specs.Pairs.{Pair, pair, sharedCount, sharedSpans, total, judgeKey, judged, NoWorse, pairsOf, noRoute, Step, ofRank, rankedKey, onEvery, floor}
 use Rattle.problem.proofs.ExposureLaws.{exposed-all, exposed-common, Inside, size-mono, sharing-mono, sharing-comm, sharing-size}
 use Rattle.problem.proofs.RankingLaws.{key-total, precedes-weak}
 
@@ -126,9 +126,9 @@ pub shared-mono : (p q : Pair) → Inside (p .main .exposure) (q .main .exposure
 unfolding sharedCount
 shared-mono p q f g = sharing-mono (p .main .exposure) (p .standby .exposure) (q .main .exposure) (q .standby .exposure) f g
 
--- the shared count is the size of the common risk set: how many of the 64 risks are on both routes
-pub shared-size : (p : Pair) → sharedCount p ≡ length (inBoth riskWidth (p .main .exposure .risks) (p .standby .exposure .risks))
-unfolding sharedCount
+-- the shared count is the size of the common risk set, how many of the 64 risks are on both routes, and how many spans both cross
+pub shared-size : (p : Pair) → sharedCount p ≡ length (inBoth riskWidth (p .main .exposure .risks) (p .standby .exposure .risks)) + sharedSpans p
+unfolding sharedCount sharedSpans
 shared-size p = sharing-size (p .main .exposure) (p .standby .exposure)
 
 -- ---- the same two routes the other way round
@@ -158,7 +158,7 @@ every-inside (s ∷ routes) (List·Memᴰ·head e) b = rw (exposed-common, e) (o
 every-inside (s ∷ routes) (List·Memᴰ·tail m) b = rw exposed-common (omega (arith, every-inside routes m b))
 
 -- what each route is exposed to lies on every route
-pub every-all : (routes : List Route) (b : ℕ) → b < mostShared → ((r : Route) → List·Memᴰ r routes → exposed (r .exposure) b ≡ 1) → exposed (onEvery routes) b ≡ 1
+pub every-all : (routes : List Route) (b : ℕ) → b < hazards → ((r : Route) → List·Memᴰ r routes → exposed (r .exposure) b ≡ 1) → exposed (onEvery routes) b ≡ 1
 unfolding onEvery
 every-all [] b h f = exposed-all b h
 every-all (r ∷ routes) b h f = rw exposed-common (omega (arith, f r (List·Memᴰ·head refl), every-all routes b h (λ s m. f s (List·Memᴰ·tail m))))

@@ -5,7 +5,7 @@ use mathlib.Core.Path.{_≡_, refl, sym, ap, _∙_, subst}
 use mathlib.Core.Bool.{Bool, true, false}
 use mathlib.Core.Logic.{_⊎_, inl, inr, _↔_}
 use mathlib.Core.List.{List, [], _∷_, _++_, List·Memᴰ}
-use Prim.Native.Nat.{ℕ, _+_, _*_, _/_, _%_, _≤_, _<_, min}
+use Prim.Native.Nat.{ℕ, zero, suc, _+_, _*_, _/_, _%_, _≤_, _<_, min}
 use native.Mathlib.Omega.{arith}
 use lib.Dec.{ltb}
 use lib.ListN.{length, take, drop}
@@ -17,14 +17,19 @@ use Rattle.problem.specs.declared.Arc.{Arc}
 use Rattle.problem.specs.declared.Fault.{Fault}
 use Rattle.problem.specs.declared.Fault.the-variants.{Sound}
 use Rattle.problem.specs.declared.Request.{Request}
-use Rattle.problem.specs.Table.{mostArcs, riskWidth, mostReach, mostAllowance, replySize, Bytes, recordAt, arcsOf, SoundArc, HasFault, faultOf, faultNumber, allSound}
-use Rattle.problem.specs.Routes.{metresOf, IsPath, Route, routeOf, precedes}
-use Rattle.problem.specs.Pairs.{Pair, pair, sharedRisks, sharedCount, total, judged, NoWorse, Step, ofRank, rankedKey, floor, every, leastSettled, ranked}
-use Rattle.problem.specs.Reply.{meshOf, answer, after, verdictIn, sharedIn, floorIn, rankedIn, mainMetresIn, standbyMetresIn, totalIn, sharedRisksIn, mainIn, standbyIn}
+use Rattle.problem.specs.Table.{mostArcs, riskWidth, mostShared, mostReach, mostAllowance, replySize, Bytes, recordAt, arcsOf, SoundArc, HasFault, faultOf, faultNumber, allSound}
+use Rattle.problem.specs.Routes.{arcAt, metresOf, exposureOf, IsPath, Route, routeOf, ranking, precedes}
+use Rattle.problem.specs.Spans.{mark, withSpan, spanless, plannedArcs}
+use Rattle.problem.specs.Exposures.{spansIn}
+use Rattle.problem.specs.Pairs.{Pair, pair, sharedRisks, sharedCount, sharedSpans, total, judged, NoWorse, Step, ofRank, rankedKey, floor, every, leastSettled, ranked}
+use Rattle.problem.specs.Reply.{meshOver, meshOf, planned, refusal, answerUnless, answer, after, verdictIn, sharedIn, floorIn, sharedSpansIn, rankedIn, mainMetresIn, standbyMetresIn, totalIn, sharedRisksIn, mainIn, standbyIn}
 use Rattle.problem.specs.Printed.{kilometres, text, printed, requestOf, Unreadable, output}
-use Rattle.problem.specs.Mending.{mostFieldBytes, Clean, wholeArcs, newNumber, zeroed, mendedTable, Change, mendedList, changesIn, oldNumber, KeptAs, lost, Listed}
-use Rattle.problem.specs.Calls.{routesOf, RouteOf, WayOf, pairMadeOf, pairSaid, allowing, Applies, Told, LowestFault}
+use Rattle.problem.specs.Mending.{mostFieldBytes, Clean, wholeArcs, newNumber, mendedTable, Change, mendedList, changesIn, oldNumber, KeptAs, lost, Listed}
+use Rattle.problem.specs.Calls.{routesOf, RouteOf, WayOf, pairMadeOf, pairSaid, allowing, Applies, Told, LowestFault, byRisksUnless, answerByRisks}
 use Rattle.problem.proofs.FaultLaws as FaultLaws
+use Rattle.problem.proofs.ExposureLaws.{spans-few}
+use Rattle.problem.proofs.SpanLaws as SpanLaws
+use Rattle.problem.proofs.SpanLaws.{planned-sound}
 use Rattle.problem.proofs.PathLaws as PathLaws
 use Rattle.problem.proofs.RankingLaws.{ranking-exact, ranking-strict}
 use Rattle.problem.proofs.PairLaws as PairLaws
@@ -46,7 +51,7 @@ module _ (table : List ℕ) (q : Request) (size : ℕ) where
   reply = answer table q size .reply
 
   abbrev arcs : List Arc
-  arcs = arcsOf table
+  arcs = plannedArcs table
 
   abbrev routes : List Route
   routes = routesOf table q
@@ -103,7 +108,7 @@ module _ (table : List ℕ) (q : Request) (size : ℕ) where
     -- the ranking has every route and nothing else
     pub ranking-has : (ks : List ℕ) → List·Memᴰ (routeOf arcs ks) routes ↔ RouteOf table q ks
     ranking-has ks =
-        ranking-exact (meshOf table q) (PathLaws.sound-heads arcs (w .passed .checked .sound)) (w .passed .checked .source-node) ks
+        ranking-exact (meshOf table q) (PathLaws.sound-heads arcs (planned-sound table (w .passed .checked .sound))) (w .passed .checked .source-node) ks
 
     -- the arc numbers in the bytes are routes
     pub reply-routes : RouteOf table q (mainIn reply) × RouteOf table q (standbyIn reply)
@@ -113,9 +118,12 @@ module _ (table : List ℕ) (q : Request) (size : ℕ) where
     pub reply-metres : (mainMetresIn reply ≡ metresOf arcs (mainIn reply)) × (standbyMetresIn reply ≡ metresOf arcs (standbyIn reply))
     reply-metres = Said.said-metres w
 
-    -- that share as many as the bytes say, and just those risks
+    -- that share as many as the bytes say, as many of these spans, and just those risks
     pub reply-shared : sharedIn reply ≡ sharedCount (pairSaid arcs reply)
     reply-shared = Said.said-shared w
+
+    pub reply-spans : sharedSpansIn reply ≡ sharedSpans (pairSaid arcs reply)
+    reply-spans = Said.said-spans w
 
     pub reply-risks : Bytes table → sharedRisksIn reply ≡ sharedRisks (pairSaid arcs reply)
     reply-risks = Said.said-risks w
@@ -205,8 +213,8 @@ reply-within table q size h = Said.said-within (low-number table q size h)
 
 -- and a reach of 62,000,000 metres sets no limit: the routes are all such lists from source to terminal
 pub largest-reach : (table : List ℕ) (q : Request) → allSound (arcsOf table) ≡ true → q .reach ≡ mostReach
-    → (ks : List ℕ) → RouteOf table q ks ↔ IsPath (arcsOf table) (q .source) (q .terminal) ks
-largest-reach table q = PathLaws.largest-reach (meshOf table q)
+    → (ks : List ℕ) → RouteOf table q ks ↔ IsPath (plannedArcs table) (q .source) (q .terminal) ks
+largest-reach table q sound = PathLaws.largest-reach (meshOf table q) (planned-sound table sound)
 
 -- number 11 has ended: no call returns it
 pub never-eleven : (table : List ℕ) (q : Request) (size : ℕ) → number table q size ≡ 11 → ⊥
@@ -217,7 +225,7 @@ never-eleven table q size e = unknown (inr (omega arith)) (number-known table q 
 
 -- once the checks before have passed, the number is n + 256 i exactly where arc i has the fault of number n as its first and every arc below i is sound
 pub arc-named : (table : List ℕ) (q : Request) (size : ℕ) → ((t i : ℕ) → t < 9 → Applies table q size t i → ⊥)
-    → (n i : ℕ) → 20 ≤ n → n ≤ 23 → (number table q size ≡ n + 256 * i) ↔ LowestFault (arcsOf table) i n
+    → (n i : ℕ) → 20 ≤ n → n ≤ 22 → (number table q size ≡ n + 256 * i) ↔ LowestFault (arcsOf table) i n
 arc-named = CallLaws.arc-named
 
 -- so whatever number past 10 is given can be taken apart: divided by 256 it says the arc, and what remains says its first fault
@@ -254,8 +262,8 @@ module _ (input : List ℕ) where
   pub unlisted-exactly : Clean input ↔ (mendedList input ≡ [])
   unlisted-exactly = (ChangeLaws.clean-empty input, ChangeLaws.empty-clean input)
 
-  -- each arc that is kept is the input's, but for zeroed spare bytes
-  pub kept-record : (old new : ℕ) → KeptAs input old new → (new < length (mendedTable input) / 16) × (recordAt (mendedTable input) new ≡ zeroed (recordAt input old))
+  -- each arc that is kept is the input's, byte for byte
+  pub kept-record : (old new : ℕ) → KeptAs input old new → (new < length (mendedTable input) / 16) × (recordAt (mendedTable input) new ≡ recordAt input old)
   kept-record old new = MendLaws.kept-record input
 
   -- kept arcs keep their order
@@ -283,10 +291,57 @@ module _ (input : List ℕ) where
 pub mended-twice : (input : List ℕ) → (mendedTable (mendedTable input) ≡ mendedTable input) × (mendedList (mendedTable input) ≡ [])
 mended-twice input = unchanged-exactly (mendedTable input) .0 (mended-clean input)
 
+-- ==== Request T-03. "The spare bytes become a span number, with zero for not known. The shared count is common risks plus distinct nonzero spans that both routes cross, and the
+-- ==== floor adds the spans that every route crosses. Tables with zero there answer as before. 23 is no longer given."
+
+-- spans are known by their first arcs: two arcs of a call have one span exactly where their numbers are the same
+pub one-span : (table : List ℕ) (j k : ℕ) → j < length (arcsOf table) → k < length (arcsOf table)
+    → (arcAt (plannedArcs table) j .span ≡ arcAt (plannedArcs table) k .span) ↔ (arcAt (arcsOf table) j .span ≡ arcAt (arcsOf table) k .span)
+one-span table j k hj hk =
+    let at : (i : ℕ) → arcAt (plannedArcs table) i .span ≡ mark (arcsOf table) (arcAt (arcsOf table) i .span) = λ i. ap (λ (a : Arc). a .span) (SpanLaws.marked-at (arcsOf table) i) in
+    let same = SpanLaws.mark-same (arcsOf table) j k hj hk in
+    (λ e. same .0 (sym (at j) ∙ e ∙ at k), λ e. at j ∙ same .1 e ∙ sym (at k))
+
+-- number 0 is no span, and every other is one
+pub known-span : (table : List ℕ) (k : ℕ) → (arcAt (plannedArcs table) k .span ≡ 0) ↔ (arcAt (arcsOf table) k .span ≡ 0)
+known-span table k =
+    let at = ap (λ (a : Arc). a .span) (SpanLaws.marked-at (arcsOf table) k) in
+    (λ e. SpanLaws.mark-zero (arcsOf table) (arcAt (arcsOf table) k .span) (sym at ∙ e), λ e. at ∙ ap (mark (arcsOf table)) e ∙ SpanLaws.mark-unknown (arcsOf table))
+
+-- nothing else of an arc changes
+pub same-but-span : (table : List ℕ) (k : ℕ) → withSpan (arcAt (plannedArcs table) k) 0 ≡ withSpan (arcAt (arcsOf table) k) 0
+same-but-span table k = ap (λ (a : Arc). withSpan a 0) (SpanLaws.marked-at (arcsOf table) k)
+
+-- a list of arcs crosses no more spans than it has arcs; of those that two cross, at most 31 are shared, and of all at most 95, which fit their bytes
+pub spans-most : (arcs : List Arc) (ks : List ℕ) → spansIn (exposureOf arcs ks) ≤ length ks
+spans-most = SpanLaws.spans-most
+
+pub reply-most : (table : List ℕ) (q : Request) (size : ℕ) → number table q size < 2 → (sharedIn (reply table q size) ≤ mostShared) × (sharedSpansIn (reply table q size) ≤ mostArcs)
+reply-most table q size h = Said.said-most (low-number table q size h)
+
+-- a table with zero there answers as it does with spans left out of the definition; and then two ways share what risks they share, and no more
+pub as-before : (table : List ℕ) (q : Request) (size : ℕ) → ((k : ℕ) → k < length (arcsOf table) → arcAt (arcsOf table) k .span ≡ 0) → answer table q size ≡ answerByRisks table q size
+unfolding answer answerUnless
+as-before table q size none = go (refusal table q size)
+  where
+    go : (n : ℕ) → answerUnless n table q ≡ byRisksUnless n table q
+    go zero = ap (λ (arcs : List Arc). planned (ranking (meshOver arcs q)) (q .allowance)) (SpanLaws.spanless-same (arcsOf table) none)
+    go (suc n) = refl
+
+pub by-risks-alone : (arcs : List Arc) (u v : List ℕ) → let p = pairMadeOf (spanless arcs) u v in sharedCount p ≡ length (inBoth riskWidth (p .main .exposure .risks) (p .standby .exposure .risks))
+unfolding routeOf sharedSpans
+by-risks-alone arcs u v =
+    let p = pairMadeOf (spanless arcs) u v in
+    omega (arith, PairLaws.shared-size p, spans-few (exposureOf (spanless arcs) u) (exposureOf (spanless arcs) v), SpanLaws.spanless-none arcs u)
+
+-- number 23 has ended: no call returns it, of whichever arc
+pub never-twenty-three : (table : List ℕ) (q : Request) (size i : ℕ) → number table q size ≡ 23 + 256 * i → ⊥
+never-twenty-three = CallLaws.never-spare
+
 -- ==== Of any pair, and of any length
 
--- the shared count is the size of the common risk set: of the 64 risks, how many are on both routes
-pub shared-size : (p : Pair) → sharedCount p ≡ length (inBoth riskWidth (p .main .exposure .risks) (p .standby .exposure .risks))
+-- the shared count is the size of the common risk set, of the 64 risks how many are on both routes, and of the spans how many both cross
+pub shared-size : (p : Pair) → sharedCount p ≡ length (inBoth riskWidth (p .main .exposure .risks) (p .standby .exposure .risks)) + sharedSpans p
 shared-size = PairLaws.shared-size
 
 -- no worse, in shared count and total, exactly where the other does not share fewer, or as many at a smaller total

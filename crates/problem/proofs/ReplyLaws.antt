@@ -13,8 +13,8 @@ use Rattle.laws.proofs.BoolLaws.{neither}
 use Rattle.problem.specs.declared.Request.{Request}
 use Rattle.problem.specs.Table.{lastNode, mostArcs, mostReach, mostAllowance, mostTableBytes, replySize, bytesOf, arcsOf, allSound}
 use Rattle.problem.specs.Routes.{Route}
-use Rattle.problem.specs.Pairs.{Step, Pair, sharedRisks, sharedCount, floor, every, best, ranked, verdict}
-use Rattle.problem.specs.Reply.{Answer, refuse, placesOf, replyOf, verdictIn, sharedIn, floorIn, rankedIn, mainMetresIn, standbyMetresIn, sharedRisksIn, mainIn, standbyIn, firstNumber, sizeChecks, requestChecks, arcChecks, refusal, Passed, planned, answerUnless, answer}
+use Rattle.problem.specs.Pairs.{Step, Pair, sharedRisks, sharedCount, sharedSpans, floor, every, best, ranked, verdict}
+use Rattle.problem.specs.Reply.{Answer, refuse, placesOf, replyOf, verdictIn, sharedIn, floorIn, sharedSpansIn, rankedIn, mainMetresIn, standbyMetresIn, sharedRisksIn, mainIn, standbyIn, firstNumber, sizeChecks, requestChecks, arcChecks, refusal, Passed, planned, answerUnless, answer}
 use Rattle.problem.specs.Calls.{routesOf, Told}
 use Rattle.problem.proofs.ByteLaws.{field-at}
 use Rattle.problem.proofs.TableLaws.{number-sound}
@@ -157,6 +157,10 @@ module _ (v low r : ℕ) (p : Pair) where
   pub reply-shared : sharedIn (replyOf v low r p) ≡ sharedCount p
   unfolding replyOf
   reply-shared = refl
+
+  pub reply-shared-spans : sharedSpansIn (replyOf v low r p) ≡ sharedSpans p
+  unfolding replyOf
+  reply-shared-spans = refl
 
   pub reply-floor : floorIn (replyOf v low r p) ≡ low
   unfolding replyOf

@@ -12,13 +12,14 @@ use Rattle.laws.proofs.ListLaws.{take-more, take-mem, take-inside}
 use Rattle.laws.proofs.SortLaws.{Strict}
 use Rattle.problem.specs.declared.Arc.{Arc}
 use Rattle.problem.specs.declared.Request.{Request}
-use Rattle.problem.specs.Table.{mostArcs, riskWidth, mostReach, mostAllowance, replySize, Bytes, arcsOf}
-use Rattle.problem.specs.Routes.{Route, metresOf, routeOf, precedes}
-use Rattle.problem.specs.Pairs.{Pair, pair, sharedRisks, sharedCount, total, judged, NoWorse, noRoute, ofRank, floor, every, best, settled, leastSettled, ranked, verdict}
-use Rattle.problem.specs.Reply.{meshOf, Answer, replyOf, answer, verdictIn, sharedIn, floorIn, rankedIn, mainMetresIn, standbyMetresIn, totalIn, sharedRisksIn, mainIn, standbyIn, Passed}
+use Rattle.problem.specs.Table.{mostArcs, riskWidth, mostShared, mostReach, mostAllowance, replySize, Bytes}
+use Rattle.problem.specs.Spans.{plannedArcs}
+use Rattle.problem.specs.Routes.{Route, metresOf, exposureOf, routeOf, precedes}
+use Rattle.problem.specs.Pairs.{Pair, pair, sharedRisks, sharedCount, sharedSpans, total, judged, NoWorse, noRoute, ofRank, floor, every, best, settled, leastSettled, ranked, verdict}
+use Rattle.problem.specs.Reply.{meshOf, Answer, replyOf, answer, verdictIn, sharedIn, floorIn, sharedSpansIn, rankedIn, mainMetresIn, standbyMetresIn, totalIn, sharedRisksIn, mainIn, standbyIn, Passed}
 use Rattle.problem.specs.Calls.{routesOf, RouteOf, WayOf, pairMadeOf, pairSaid, allowing}
-use Rattle.problem.proofs.ExposureLaws.{common-risks-below}
-use Rattle.problem.proofs.TableLaws.{risks-below}
+use Rattle.problem.proofs.ExposureLaws.{common-risks-below, sharing-few, spans-few}
+use Rattle.problem.proofs.SpanLaws.{planned-risks-below, planned-sound, spans-most}
 use Rattle.problem.proofs.PathLaws.{sound-heads, path-range}
 use Rattle.problem.proofs.RankingLaws.{Listed, ranking-out, ranking-strict, route-short}
 use Rattle.problem.proofs.PairLaws.{judged-no-worse}
@@ -26,7 +27,7 @@ use Rattle.problem.proofs.CandidateLaws.{best-in, best-main, best-least
 use Rattle.problem.proofs.SettleLaws.{ByLength, settled-cases, settled-by, least-settled, least-settled-inside, main-not-after, settled-no-better}
 use Rattle.problem.proofs.WayLaws.{part-shared, part-total, way-route}
 use Rattle.problem.proofs.WindowLaws.{judged-same, J-le, best-allowed}
-use Rattle.problem.proofs.ReplyLaws.{chosen, reply-verdict, reply-shared, reply-floor, reply-ranked, reply-main-metres, reply-standby-metres, reply-shared-risks, reply-main, reply-standby, reply-length}
+use Rattle.problem.proofs.ReplyLaws.{chosen, reply-verdict, reply-shared, reply-shared-spans, reply-floor, reply-ranked, reply-main-metres, reply-standby-metres, reply-shared-risks, reply-main, reply-standby, reply-length}
 use Rattle.problem.proofs.CallLaws.{WithPair, Verdict, verdict-cases, verdict-settled, verdict-stopped, verdict-small, some-route, pair-step, some-pair}
 
 -- ---- shared count and total, compared
@@ -46,7 +47,7 @@ no-worse-still {a} {b} {c} {d} {c′} {d′} (NoWorse.as-many e l) p q = go (ltb
 
 module _ {table : List ℕ} {q : Request} {size : ℕ} (w : WithPair table q size) where
   abbrev arcs : List Arc
-  arcs = arcsOf table
+  arcs = plannedArcs table
 
   abbrev routes : List Route
   routes = routesOf table q
@@ -77,14 +78,14 @@ module _ {table : List ℕ} {q : Request} {size : ℕ} (w : WithPair table q siz
 
   listed-short : {r : Route} → List·Memᴰ r routes → length (r .arcs) ≤ mostArcs
   listed-short m =
-      route-short (meshOf table q) (sound-heads arcs (w .passed .checked .sound)) (w .passed .checked .source-node) (listed-route m .0)
+      route-short (meshOf table q) (sound-heads arcs (planned-sound table (w .passed .checked .sound))) (w .passed .checked .source-node) (listed-route m .0)
 
   -- and no longer than 62,000,000 metres, whatever the reach
   listed-range : {r : Route} → List·Memᴰ r routes → r .metres ≤ mostReach
   unfolding routeOf
   listed-range m =
       let l = listed-route m in
-      omega (arith, path-range arcs (w .passed .checked .sound) (l .0 .path), ap (λ (s : Route). s .metres) (l .1))
+      omega (arith, path-range arcs (planned-sound table (w .passed .checked .sound)) (l .0 .path), ap (λ (s : Route). s .metres) (l .1))
 
   -- ---- the fields
 
@@ -143,11 +144,24 @@ module _ {table : List ℕ} {q : Request} {size : ℕ} (w : WithPair table q siz
   pub said-shared : sharedIn reply ≡ sharedCount (pairSaid arcs reply)
   said-shared = shared-in ∙ ap sharedCount (sym said-is)
 
+  pub said-spans : sharedSpansIn reply ≡ sharedSpans (pairSaid arcs reply)
+  said-spans = ap sharedSpansIn reply-is ∙ reply-shared-spans _ _ _ (chosen table q) ∙ ap sharedSpans (sym said-is)
+
+  -- a route has at most 31 arcs, so it crosses at most as many spans
+  pub said-most : (sharedIn reply ≤ mostShared) × (sharedSpansIn reply ≤ mostArcs)
+  unfolding sharedCount sharedSpans routeOf
+  said-most =
+      let main = exposureOf arcs (mainIn reply) in
+      let standby = exposureOf arcs (standbyIn reply) in
+      let few = route-short (meshOf table q) (sound-heads arcs (planned-sound table (w .passed .checked .sound))) (w .passed .checked .source-node) (said-routes .0) in
+      let spans = spans-most arcs (mainIn reply) in
+      (omega (arith, said-shared, sharing-few main standby, spans, few), omega (arith, said-spans, spans-few main standby, spans, few))
+
   -- in a table of bytes no risk is past 63, so the field has room for all
   pub said-risks : Bytes table → sharedRisksIn reply ≡ sharedRisks (pairSaid arcs reply)
   unfolding sharedRisks routeOf
   said-risks bytes =
-      let room : sharedRisks (pairSaid arcs reply) < 2 ^ riskWidth = common-risks-below riskWidth _ _ (risks-below table bytes (mainIn reply)) (risks-below table bytes (standbyIn reply)) in
+      let room : sharedRisks (pairSaid arcs reply) < 2 ^ riskWidth = common-risks-below riskWidth _ _ (planned-risks-below table bytes (mainIn reply)) (planned-risks-below table bytes (standbyIn reply)) in
       ap sharedRisksIn reply-is ∙ reply-shared-risks _ _ _ (chosen table q) (subst (λ (p : Pair). sharedRisks p < 2 ^ riskWidth) said-is room) ∙ ap sharedRisks (sym said-is)
 
   -- ---- among all pairs that the allowance admits
@@ -229,7 +243,7 @@ module _ {table : List ℕ} {q : Request} {size : ℕ} (w : WithPair table q siz
   pub no-better-ways : answer table q size .number ≡ 0 → {u v : List ℕ} → WayOf table q u → WayOf table q v
       → NoWorse (sharedIn reply) (totalIn reply) (sharedCount (pairMadeOf arcs u v)) (total (pairMadeOf arcs u v))
   no-better-ways e {u} {v} x y =
-      let low = sound-heads arcs (w .passed .checked .sound) in
+      let low = sound-heads arcs (planned-sound table (w .passed .checked .sound)) in
       let node = w .passed .checked .source-node in
       let f = way-route (meshOf table q) low node x in
       let g = way-route (meshOf table q) low node y in

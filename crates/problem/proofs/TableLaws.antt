@@ -48,9 +48,9 @@ pub arcs-at : (table : List ℕ) (k : ℕ) → 16 * k + 16 ≤ length table → 
 unfolding arcsOf
 arcs-at table k h = first-at (length table / 16) k table (omega arith)
 
--- no risk of an arc, or of a list of arcs, is past 63
+-- no risk of an arc is past 63
 module _ (table : List ℕ) (bytes : Bytes table) where
-  arc-risks-below : (k : ℕ) → arcAt (arcsOf table) k .risks < 2 ^ riskWidth
+  pub arc-risks-below : (k : ℕ) → arcAt (arcsOf table) k .risks < 2 ^ riskWidth
   unfolding arcOf
   arc-risks-below k = go (ltb k (length table / 16)) refl
     where
@@ -60,10 +60,11 @@ module _ (table : List ℕ) (bytes : Bytes table) where
           omega (arith, ap (λ (a : Arc). a .risks) (arcs-at table k (omega arith)), number-below (recordAt table k) (bytes-part (16 * k) 16 table bytes) 8 8)
       go false e = omega (arith, ap (λ (a : Arc). a .risks) (List·getD-eq-default (arcsOf table) (arcAt [] 0) {n = k} (omega (arith, arcs-length table, ltb-false k (length table / 16) e))))
 
-  pub risks-below : (ks : List ℕ) → exposureOf (arcsOf table) ks .risks < 2 ^ riskWidth
-  unfolding exposureOf toNothing ofArc
-  risks-below [] = omega arith
-  risks-below (k ∷ ks) = joined-risks-below riskWidth (ofArc (arcAt (arcsOf table) k)) (exposureOf (arcsOf table) ks) (arc-risks-below k) (risks-below ks)
+-- nor is one of a list of such arcs
+pub risks-below : (arcs : List Arc) → ((k : ℕ) → arcAt arcs k .risks < 2 ^ riskWidth) → (ks : List ℕ) → exposureOf arcs ks .risks < 2 ^ riskWidth
+unfolding exposureOf toNothing ofArc
+risks-below arcs below [] = omega arith
+risks-below arcs below (k ∷ ks) = joined-risks-below riskWidth (ofArc (arcAt arcs k)) (exposureOf arcs ks) (below k) (risks-below arcs below ks)
 
 pub sound-number : (arcs : List Arc) → allSound arcs ≡ true → arcsNumber arcs ≡ 0
 unfolding allSound

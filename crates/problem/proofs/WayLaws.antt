@@ -14,7 +14,7 @@ use Rattle.laws.proofs.OrderLaws.{ltb-total, total-weak}
 use Rattle.laws.proofs.FirstLaws.{first-mem, first-least}
 use Rattle.problem.specs.declared.Arc.{Arc}
 use Rattle.problem.specs.declared.Exposure.{Exposure}
-use Rattle.problem.specs.Table.{lastNode, mostShared}
+use Rattle.problem.specs.Table.{lastNode, hazards}
 use Rattle.problem.specs.Exposures.{exposed, ofArc, joined, disjoint}
 use Rattle.problem.specs.Routes.{Mesh, arcAt, metresOf, exposureOf, nodesFrom, Way, IsWay, IsPath, pathsFrom, Route, routeOf, routesFrom, ranking, FreeWay, freeLengths, shortest}
 use Rattle.problem.specs.Pairs.{pair, sharedCount, total, onEvery}
@@ -129,7 +129,7 @@ module _ (m : Mesh) (low : LowHeads (m .arcs)) (node : m .source ≤ lastNode) w
       }
 
   -- what lies on every route is just what every way within reach is exposed to
-  pub every-ways : (b : ℕ) → b < mostShared → (exposed (onEvery (ranking m)) b ≡ 1) ↔ ((ks : List ℕ) → IsWay m ks → exposed (exposureOf (m .arcs) ks) b ≡ 1)
+  pub every-ways : (b : ℕ) → b < hazards → (exposed (onEvery (ranking m)) b ≡ 1) ↔ ((ks : List ℕ) → IsWay m ks → exposed (exposureOf (m .arcs) ks) b ≡ 1)
   unfolding routeOf
   every-ways b h = (
     λ e ks w. let f = way-route w in omega (arith, exposed-le-one (exposureOf (m .arcs) ks) b, part-exposure (m .arcs) (f .part) b, every-inside (ranking m) (f .ranked) b),

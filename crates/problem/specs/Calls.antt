@@ -1,5 +1,5 @@
 -- Calls, as the promises speak of them: the routes and the ways of a call, the test of each number and its turn, the lowest faulty arc, the pair that a reply says, another allowance, and what a call of the entry does. Assumes nothing.
-use Prim.Native.Nat.{ℕ, _+_, _*_, _%_, _<_}
+use Prim.Native.Nat.{ℕ, zero, suc, _+_, _*_, _%_, _<_}
 use mathlib.Core.List.{List}
 use mathlib.Core.Path.{_≡_}
 use lib.ListN.{length}
@@ -7,9 +7,10 @@ use Rattle.problem.specs.declared.Arc.{Arc}
 use Rattle.problem.specs.declared.Fault.{Fault}
 use Rattle.problem.specs.declared.Request.{Request}
 use Rattle.problem.specs.Table.{lastNode, mostReach, mostAllowance, mostTableBytes, replySize, arcsOf, SoundArc, HasFault, faultNumber, arcNumber}
+use Rattle.problem.specs.Spans.{spanless}
 use Rattle.problem.specs.Routes.{Route, IsRoute, IsWay, arcAt, routeOf, ranking}
 use Rattle.problem.specs.Pairs.{Pair, pair}
-use Rattle.problem.specs.Reply.{request, meshOf, answer, after, mainIn, standbyIn}
+use Rattle.problem.specs.Reply.{request, meshOver, meshOf, Answer, refuse, refusal, planned, answer, after, mainIn, standbyIn}
 
 -- the routes of a call, in their ranking; N is how many there are
 abbrev pub routesOf : List ℕ → Request → List Route
@@ -62,6 +63,14 @@ pub record LowestFault (arcs : List Arc) (i n : ℕ) : Type 0 where
   pub is-fault : 0 < n
   pub first-fault : arcNumber (arcAt arcs i) ≡ n
   pub sound-below : (j : ℕ) → j < i → SoundArc (arcAt arcs j)
+
+-- the answer with spans left out: as `answer`, but that no arc has one (T-03)
+abbrev pub byRisksUnless : ℕ → List ℕ → Request → Answer
+byRisksUnless zero table q = planned (ranking (meshOver (spanless (arcsOf table)) q)) (q .allowance)
+byRisksUnless (suc n) table q = refuse (suc n)
+
+abbrev pub answerByRisks : List ℕ → Request → ℕ → Answer
+answerByRisks table q size = byRisksUnless (refusal table q size) table q
 
 -- what a call of the planning entry does: it finds `before` in the reply buffer, returns `number` and leaves `now`
 pub record Called (table : List ℕ) (q : Request) (before : List ℕ) (number : ℕ) (now : List ℕ) : Type 0 where

@@ -1,15 +1,16 @@
 -- 01, Meshes worked by hand: the starred cases, proved as a single table against the definitions; and rows of our own, each there because a wrong definition
 -- would otherwise pass (docs/TESTING.md has the wrong definitions that were tried). Assumes nothing.
-use Prim.Native.Nat.{ℕ, zero, suc, _*_, _-_, _^_}
+use Prim.Native.Nat.{ℕ, zero, suc, _+_, _*_, _-_, _^_}
 use mathlib.Core.List.{List, [], _∷_, _++_, map}
 use mathlib.Core.Path.{_≡_, refl}
 use native.Mathlib.Omega.{arith}
 use lib.ListN.{length, take, replicate}
 use Rattle.laws.specs.Choosing.{numbersFrom}
 use Rattle.problem.specs.declared.Request.{Request}
-use Rattle.problem.specs.declared.Fault.the-variants.{Sound, Node, EqualEnds, Length, Spare}
+use Rattle.problem.specs.declared.Fault.the-variants.{Sound, Node, EqualEnds, Length}
 use Rattle.problem.specs.Opened.{opened}
-use Rattle.problem.specs.Table.{nodes, mostArcs, mostShared, mostArcMetres, mostReach, mostInTable, Bytes, bytesOf, arcOf, arcsOf, faultOf}
+use Rattle.problem.specs.Table.{nodes, mostArcs, riskWidth, mostShared, hazards, mostArcMetres, mostReach, mostInTable, Bytes, bytesOf, arcOf, arcsOf, faultOf}
+use Rattle.problem.specs.Spans.{marked}
 use Rattle.problem.specs.Routes.{mesh, Way, paths, FreeWay, freeLengths, shortest}
 use Rattle.problem.specs.Reply.{request, Answer, answer, refuse, sharedIn, floorIn, rankedIn, totalIn, sharedRisksIn, mainIn, standbyIn}
 use Rattle.problem.specs.Calls.{WayOf, allowing, LowestFault}
@@ -19,6 +20,10 @@ use Rattle.problem.specs.Printed.{kilometres, text, digits, output}
 -- an arc as 01 prints it: tail, head, metres, and the field of its risks
 abbrev pub arc : ℕ → ℕ → ℕ → ℕ → List ℕ
 arc tail head metres risks = tail ∷ head ∷ 0 ∷ 0 ∷ [] ++ bytesOf 4 metres ++ bytesOf 8 risks
+
+-- an arc with a span number (T-03)
+abbrev pub spanArc : ℕ → ℕ → ℕ → ℕ → ℕ → List ℕ
+spanArc tail head span metres risks = tail ∷ head ∷ bytesOf 2 span ++ bytesOf 4 metres ++ bytesOf 8 risks
 
 -- n arcs in a line from node v on, each of the same metres, arc k with risk k
 abbrev pub line : ℕ → ℕ → ℕ → List ℕ
@@ -75,14 +80,17 @@ meshLong = line 2000000 0 31
 abbrev pub places : List ℕ → List ℕ
 places l = l ++ replicate (32 - length l) 255
 
--- the 96 bytes as 01's page has them, field by field
-abbrev pub written : (verdict shared floor ranked mainMetres standbyMetres risks : ℕ) → (main standby : List ℕ) → Answer
-written verdict shared floor ranked mainMetres standbyMetres risks main standby =
+-- the 96 bytes as 01's page has them, field by field; with so many spans shared (T-03), and with none
+abbrev pub writtenWith : (spans verdict shared floor ranked mainMetres standbyMetres risks : ℕ) → (main standby : List ℕ) → Answer
+writtenWith spans verdict shared floor ranked mainMetres standbyMetres risks main standby =
     record {
       number = verdict;
-      reply = verdict ∷ shared ∷ floor ∷ length main ∷ length standby ∷ 0 ∷ 0 ∷ 0 ∷ []
+      reply = verdict ∷ shared ∷ floor ∷ length main ∷ length standby ∷ spans ∷ 0 ∷ 0 ∷ []
           ++ bytesOf 4 ranked ++ bytesOf 4 mainMetres ++ bytesOf 4 standbyMetres ++ 0 ∷ 0 ∷ 0 ∷ 0 ∷ [] ++ bytesOf 8 risks ++ places main ++ places standby;
     }
+
+abbrev pub written : (verdict shared floor ranked mainMetres standbyMetres risks : ℕ) → (main standby : List ℕ) → Answer
+written = writtenWith 0
 
 -- a row of the table: a call, and the answer that 01 gives
 pub record Row : Type 0 where
@@ -170,7 +178,7 @@ unfolding opened
 round-twice = record { way = looped; within-reach = omega arith }
 
 -- and be free of what is banned
-pub free-round : FreeWay (arcsOf meshLoop) (record { risks = 4 }) 3 0 (0 ∷ 3 ∷ 4 ∷ 3 ∷ 4 ∷ 5 ∷ [])
+pub free-round : FreeWay (arcsOf meshLoop) (record { risks = 4; low = 0; high = 0 }) 3 0 (0 ∷ 3 ∷ 4 ∷ 3 ∷ 4 ∷ 5 ∷ [])
 unfolding opened
 free-round = record { way = looped; free = refl }
 
@@ -188,8 +196,8 @@ pub paths-A : paths (mesh (arcsOf meshA) 0 3 0) ≡ (0 ∷ 1 ∷ []) ∷ (0 ∷ 
 unfolding opened
 paths-A = refl
 
--- nodes 0 to 31, risks 0 to 63, a table of 128 arcs
-pub limits : nodes ∷ mostShared ∷ mostInTable ∷ [] ≡ 32 ∷ 64 ∷ 128 ∷ []
+-- nodes 0 to 31, risks 0 to 63, a table of 128 arcs; at most 95 are shared, of 192 risks and spans
+pub limits : nodes ∷ riskWidth ∷ mostInTable ∷ mostShared ∷ hazards ∷ [] ≡ 32 ∷ 64 ∷ 128 ∷ 95 ∷ 192 ∷ []
 limits = refl
 
 -- as many metres as the most arcs of the longest have make the largest reach
@@ -229,23 +237,23 @@ pub fault-by-fault
     ∷ number (arc 0 31 2000000 0) 0 1 62000000 1000000 96
     ∷ number (arc 0 31 2000000 0) 0 31 62000000 1000000 96
     ∷ []
-    ≡ 2 ∷ 3 ∷ 3 ∷ 4 ∷ 5 ∷ 5 ∷ 5 ∷ 6 ∷ 7 ∷ 8 ∷ 8 ∷ 20 ∷ 22 ∷ 23 ∷ 23 ∷ 22 ∷ 20 ∷ 21 ∷ 1301 ∷ 10 ∷ 0 ∷ []
+    ≡ 2 ∷ 3 ∷ 3 ∷ 4 ∷ 5 ∷ 5 ∷ 5 ∷ 6 ∷ 7 ∷ 8 ∷ 8 ∷ 20 ∷ 22 ∷ 10 ∷ 10 ∷ 22 ∷ 20 ∷ 21 ∷ 1301 ∷ 10 ∷ 0 ∷ []
 unfolding opened
 fault-by-fault = refl
 
--- of several faulty arcs the lowest is told, whatever its fault: arc 1, whose spare bytes are used, before arc 2, which has a node over 31; arc 0 before arc 1;
+-- of several faulty arcs the lowest is told, whatever its fault: arc 1, whose ends are equal, before arc 2, which has a node over 31; arc 0 before arc 1;
 -- arc 21, a metre too long; and the last of 128
 pub lowest-told
-    : number (arc 0 1 5 0 ++ 0 ∷ 1 ∷ 1 ∷ replicate 13 0 ++ arc 32 1 5 0) 0 1 100 1 96
+    : number (arc 0 1 5 0 ++ arc 3 3 5 0 ++ arc 32 1 5 0) 0 1 100 1 96
     ∷ number (arc 0 1 2000001 0 ++ arc 2 2 5 0) 0 1 100 1 96
     ∷ number (line 1000 0 21 ++ arc 0 1 2000001 0) 0 21 100 1 96
     ∷ number (line 1000 0 31 ++ line 1000 0 31 ++ line 1000 0 31 ++ line 1000 0 31 ++ line 1000 0 3 ++ arc 7 7 0 0) 0 1 100 1 96
     ∷ []
-    ≡ 279 ∷ 22 ∷ 5398 ∷ 32533 ∷ []
+    ≡ 277 ∷ 22 ∷ 5398 ∷ 32533 ∷ []
 unfolding opened
 lowest-told = refl
 
--- of several faults of an arc the first is told, in the order node, equal ends, length, spare
+-- of several faults of an arc the first is told, in the order node, equal ends, length; a span number is none
 pub first-faults
     : map (λ b. faultOf (arcOf b))
     ((0 ∷ 32 ∷ 1 ∷ 0 ∷ bytesOf 4 2000001 ++ bytesOf 8 0)
@@ -255,31 +263,64 @@ pub first-faults
     ∷ (0 ∷ 31 ∷ 1 ∷ 0 ∷ bytesOf 4 2000000 ++ bytesOf 8 0)
     ∷ (31 ∷ 0 ∷ 0 ∷ 0 ∷ bytesOf 4 2000000 ++ bytesOf 8 0)
     ∷ [])
-    ≡ Node ∷ Node ∷ EqualEnds ∷ Length ∷ Spare ∷ Sound ∷ []
+    ≡ Node ∷ Node ∷ EqualEnds ∷ Length ∷ Sound ∷ Sound ∷ []
 unfolding opened
 first-faults = refl
 
+-- ---- T-03, two routes in one span
+
+-- both directions of span 9, crossed by the first route and by the last; the two between them share two risks with the first
+abbrev pub meshBack : List ℕ
+meshBack = arc 0 1 1000 65 ++ spanArc 1 2 9 1000 2 ++ arc 2 3 1000 132 ++ arc 0 2 3000 8 ++ spanArc 2 1 9 1000 16 ++ arc 1 3 3000 32
+
+-- n arcs that lie on no route, each with a span of its own
+abbrev pub aside : ℕ → List ℕ
+aside zero = []
+aside (suc n) = spanArc 30 31 (1000 + n) 5 0 ++ aside n
+
+-- D2 with a span number on its arc; both directions of a span; a span that one route crosses twice counts once; risks and spans together; spans 1 and 65,535; 256 is a span,
+-- and 1 is not 257; no number is no span; equal numbers on arcs that are not parallel are one span; over 64 distinct spans, one of the last of them on every
+-- route; the 64th span of a table, the 65th and the 128th
+abbrev pub spanRows : List Row
+spanRows =
+    row (spanArc 0 1 7 1000 0) 1 10000 1000 (writtenWith 1 0 1 1 1 1000 1000 0 (0 ∷ []) (0 ∷ []))
+    ∷ row meshBack 3 10000 1 (writtenWith 1 1 1 0 1 3000 7000 0 (0 ∷ 1 ∷ 2 ∷ []) (3 ∷ 4 ∷ 5 ∷ []))
+    ∷ row (spanArc 0 1 5 1000 0 ++ spanArc 1 2 5 1000 0) 2 10000 1000 (writtenWith 1 0 1 1 1 2000 2000 0 (0 ∷ 1 ∷ []) (0 ∷ 1 ∷ []))
+    ∷ row (spanArc 0 1 7 1000 5) 1 10000 1000 (writtenWith 1 0 3 3 1 1000 1000 5 (0 ∷ []) (0 ∷ []))
+    ∷ row (spanArc 0 1 1 1000 0 ++ spanArc 1 2 65535 1000 0) 2 10000 1000 (writtenWith 2 0 2 2 1 2000 2000 0 (0 ∷ 1 ∷ []) (0 ∷ 1 ∷ []))
+    ∷ row (spanArc 0 1 256 1000 0) 1 10000 1000 (writtenWith 1 0 1 1 1 1000 1000 0 (0 ∷ []) (0 ∷ []))
+    ∷ row (spanArc 0 1 1 1000 0 ++ spanArc 0 1 257 1000 0) 1 10000 1000 (written 0 0 0 1 1000 1000 0 (0 ∷ []) (1 ∷ []))
+    ∷ row (arc 0 1 1000 0 ++ arc 0 1 1000 0) 1 10000 1000 (written 0 0 0 1 1000 1000 0 (0 ∷ []) (0 ∷ []))
+    ∷ row (spanArc 5 6 7 1000 0 ++ spanArc 0 1 7 1000 0 ++ spanArc 0 1 7 1000 0) 1 10000 1000 (writtenWith 1 0 1 1 1 1000 1000 0 (1 ∷ []) (1 ∷ []))
+    ∷ row (aside 70 ++ spanArc 0 1 9 1000 0 ++ spanArc 0 1 8 1000 0 ++ spanArc 1 2 7 1000 0) 2 10000 1000 (writtenWith 1 0 1 1 1 2000 2000 0 (70 ∷ 72 ∷ []) (71 ∷ 72 ∷ []))
+    ∷ row (aside 63 ++ spanArc 0 1 9 1000 0) 1 10000 1000 (writtenWith 1 0 1 1 1 1000 1000 0 (63 ∷ []) (63 ∷ []))
+    ∷ row (aside 64 ++ spanArc 0 1 9 1000 0) 1 10000 1000 (writtenWith 1 0 1 1 1 1000 1000 0 (64 ∷ []) (64 ∷ []))
+    ∷ row (aside 127 ++ spanArc 0 1 9 1000 0) 1 10000 1000 (writtenWith 1 0 1 1 1 1000 1000 0 (127 ∷ []) (127 ∷ []))
+    ∷ []
+
+pub two-in-one-span : map (λ r. answer (r .table) (r .request) 96) spanRows ≡ map (λ r. r .expected) spanRows
+unfolding opened
+two-in-one-span = refl
+
+-- spans by their first arcs, counted from 1: 9 by arc 0, 7 by arc 2, 65,535 by arc 4
+pub marks : map (λ a. a .span) (marked (arcsOf (spanArc 0 1 9 5 0 ++ arc 0 1 5 0 ++ spanArc 0 1 7 5 0 ++ spanArc 1 0 9 5 0 ++ spanArc 2 3 65535 5 0 ++ spanArc 2 3 7 5 0))) ≡ 1 ∷ 0 ∷ 3 ∷ 1 ∷ 5 ∷ 3 ∷ []
+unfolding opened
+marks = refl
+
 -- ---- T-01, mending
 
--- an arc with its spare bytes as they come
-abbrev pub spareArc : ℕ → ℕ → ℕ → ℕ → ℕ → ℕ → List ℕ
-spareArc tail head low high metres risks = tail ∷ head ∷ low ∷ high ∷ [] ++ bytesOf 4 metres ++ bytesOf 8 risks
-
--- a record of the list of changes, as the request lays it out: of an arc that is lost, and of one that is kept
+-- a record of the list of changes, as the request lays it out, of an arc that is lost
 abbrev pub recordLost : ℕ → ℕ → List ℕ
 recordLost old reason = old ∷ 0 ∷ reason ∷ 0 ∷ 255 ∷ 255 ∷ 0 ∷ 0 ∷ 0 ∷ 0 ∷ 0 ∷ 0 ∷ 0 ∷ 0 ∷ 0 ∷ 0 ∷ []
 
-abbrev pub recordKept : ℕ → ℕ → ℕ → List ℕ
-recordKept old reason new = old ∷ 0 ∷ reason ∷ 0 ∷ new ∷ 0 ∷ 0 ∷ 0 ∷ 0 ∷ 0 ∷ 0 ∷ 0 ∷ 0 ∷ 0 ∷ 0 ∷ 0 ∷ []
-
--- our own: a table from the field with each reason but "past 128": node, equal ends, length, spare, torn end; arcs 0 and 5 are sound, and arc 5 only shifts
+-- our own: a table from the field with each reason but "past 128": node, equal ends, length, torn end; arcs 0, 4 and 5 are sound, arc 4 with a span number, and arcs 4 and 5 only shift
 abbrev pub fieldTable : List ℕ
 fieldTable =
-    arc 0 1 1000 1 ++ arc 32 1 1000 2 ++ arc 3 3 1000 4 ++ arc 0 2 2000001 8 ++ spareArc 0 2 7 0 2000000 16 ++ arc 31 3 5 32 ++ 1 ∷ 2 ∷ 3 ∷ []
+    arc 0 1 1000 1 ++ arc 32 1 1000 2 ++ arc 3 3 1000 4 ++ arc 0 2 2000001 8 ++ spanArc 0 2 7 2000000 16 ++ arc 31 3 5 32 ++ 1 ∷ 2 ∷ 3 ∷ []
 
 pub mended-field
     : mendedTable fieldTable ∷ mendedList fieldTable ∷ []
-    ≡ (arc 0 1 1000 1 ++ arc 0 2 2000000 16 ++ arc 31 3 5 32) ∷ (recordLost 1 1 ++ recordLost 2 2 ++ recordLost 3 3 ++ recordKept 4 4 1 ++ recordLost 6 6) ∷ []
+    ≡ (arc 0 1 1000 1 ++ spanArc 0 2 7 2000000 16 ++ arc 31 3 5 32) ∷ (recordLost 1 1 ++ recordLost 2 2 ++ recordLost 3 3 ++ recordLost 6 6) ∷ []
 unfolding opened
 mended-field = refl
 
@@ -288,10 +329,10 @@ pub old-numbers-field : map (oldNumber (changesIn (mendedList fieldTable))) (0 �
 unfolding opened
 old-numbers-field = refl
 
--- of several reasons the first; spare bytes of 1, of 256 and of 65,535; a head over 31 alone
+-- of several reasons the first; span numbers 1, 256 and 65,535 are none; a head over 31 alone
 pub first-reasons
-    : mendedList (spareArc 32 32 1 0 2000001 0 ++ spareArc 3 3 1 0 2000001 0 ++ spareArc 0 3 1 0 2000001 0 ++ spareArc 0 1 1 0 5 0 ++ spareArc 0 1 0 1 5 0 ++ spareArc 0 1 255 255 5 0 ++ arc 0 32 5 0)
-    ≡ recordLost 0 1 ++ recordLost 1 2 ++ recordLost 2 3 ++ recordKept 3 4 0 ++ recordKept 4 4 1 ++ recordKept 5 4 2 ++ recordLost 6 1
+    : mendedList (spanArc 32 32 1 2000001 0 ++ spanArc 3 3 1 2000001 0 ++ spanArc 0 3 1 2000001 0 ++ spanArc 0 1 1 5 0 ++ spanArc 0 1 256 5 0 ++ spanArc 0 1 65535 5 0 ++ arc 0 32 5 0)
+    ≡ recordLost 0 1 ++ recordLost 1 2 ++ recordLost 2 3 ++ recordLost 6 1
 unfolding opened
 first-reasons = refl
 
@@ -299,12 +340,12 @@ first-reasons = refl
 abbrev pub many : List ℕ
 many = line 1000 0 31 ++ line 1000 0 31 ++ line 1000 0 31 ++ line 1000 0 31 ++ line 1000 0 3
 
--- behind a lost arc 128 are kept, the last of them with spare bytes made zero; then a fault is told before the limit, and used spare bytes behind it
+-- behind a lost arc 128 are kept, the last of them with its span number; then a fault is told before the limit
 pub mended-many
-    : mendedTable (arc 7 7 0 0 ++ many ++ spareArc 0 1 0 9 5 0 ++ arc 0 1 5 0 ++ arc 0 32 5 0 ++ spareArc 0 1 9 0 5 0)
-    ∷ mendedList (arc 7 7 0 0 ++ many ++ spareArc 0 1 0 9 5 0 ++ arc 0 1 5 0 ++ arc 0 32 5 0 ++ spareArc 0 1 9 0 5 0)
+    : mendedTable (arc 7 7 0 0 ++ many ++ spanArc 0 1 2304 5 0 ++ arc 0 1 5 0 ++ arc 0 32 5 0 ++ spanArc 0 1 9 5 0)
+    ∷ mendedList (arc 7 7 0 0 ++ many ++ spanArc 0 1 2304 5 0 ++ arc 0 1 5 0 ++ arc 0 32 5 0 ++ spanArc 0 1 9 5 0)
     ∷ []
-    ≡ (many ++ arc 0 1 5 0) ∷ (recordLost 0 2 ++ recordKept 128 4 127 ++ recordLost 129 5 ++ recordLost 130 1 ++ recordLost 131 5) ∷ []
+    ≡ (many ++ spanArc 0 1 2304 5 0) ∷ (recordLost 0 2 ++ recordLost 129 5 ++ recordLost 130 1 ++ recordLost 131 5) ∷ []
 unfolding opened
 mended-many = refl
 
@@ -400,10 +441,10 @@ unfolding opened
 printed-12 = refl
 
 -- the side table of mesh A: free of risk 0 the terminal is 5,000 m from the source; free of 1 and 3 it cannot be reached, and the length is then 0
-pub shortest-A : map (λ risks. freeLengths (arcsOf meshA) (record { risks = risks }) 3 0) (1 ∷ 10 ∷ []) ≡ (5000 ∷ []) ∷ [] ∷ []
+pub shortest-A : map (λ risks. freeLengths (arcsOf meshA) (record { risks = risks; low = 0; high = 0 }) 3 0) (1 ∷ 10 ∷ []) ≡ (5000 ∷ []) ∷ [] ∷ []
 unfolding opened
 shortest-A = refl
 
-pub shortest-lengths : map (λ risks. shortest (arcsOf meshA) (record { risks = risks }) 3 0) (0 ∷ 1 ∷ 10 ∷ []) ≡ 3000 ∷ 5000 ∷ 0 ∷ []
+pub shortest-lengths : map (λ risks. shortest (arcsOf meshA) (record { risks = risks; low = 0; high = 0 }) 3 0) (0 ∷ 1 ∷ 10 ∷ []) ≡ 3000 ∷ 5000 ∷ 0 ∷ []
 unfolding opened
 shortest-lengths = refl

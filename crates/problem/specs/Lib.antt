@@ -1,4 +1,5 @@
 pub mod Table
+pub mod Spans
 pub mod Exposures
 pub mod Routes
 pub mod Pairs

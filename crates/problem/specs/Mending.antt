@@ -4,12 +4,12 @@ use mathlib.Core.Bool.{Bool, true, false, _&&_, _||_}
 use mathlib.Core.List.{List, [], _∷_, _++_, map, flatMap}
 use mathlib.Core.Path.{_≡_}
 use lib.Dec.{eqb, leb, ltb}
-use lib.ListN.{length, getD, take, drop, replicate}
+use lib.ListN.{length, getD, take, replicate}
 use Rattle.laws.specs.Choosing.{if_then_else_, numbersFrom, keep}
 use Rattle.problem.specs.declared.Fault.{Fault}
-use Rattle.problem.specs.declared.Fault.the-variants.{Sound, Node, EqualEnds, Length, Spare}
+use Rattle.problem.specs.declared.Fault.the-variants.{Sound, Node, EqualEnds, Length}
 use Rattle.problem.specs.declared.Reason.{Reason}
-use Rattle.problem.specs.declared.Reason.the-variants.{Unchanged, BadNode, SameEnds, TooLong, SpareUsed, PastLimit, TornEnd}
+use Rattle.problem.specs.declared.Reason.the-variants.{Unchanged, BadNode, SameEnds, TooLong, PastLimit, TornEnd}
 use Rattle.problem.specs.Table.{mostTableBytes, mostInTable, numberAt, bytesOf, over, recordAt, arcOf, arcsOf, faultOf, allSound}
 use Rattle.problem.specs.Reply.{Check, check, firstNumber}
 
@@ -33,12 +33,11 @@ wholeArcs input = length input / 16
 abbrev pub faultAt : List ℕ → ℕ → Fault
 faultAt input k = faultOf (arcOf (recordAt input k))
 
--- an arc with a bad node, equal ends or a bad length is removed; used spare bytes are no reason to
+-- an arc with a bad node, equal ends or a bad length is removed
 abbrev pub mayStay : Fault → Bool
 mayStay Node = false
 mayStay EqualEnds = false
 mayStay Length = false
-mayStay Spare = true
 mayStay Sound = true
 
 -- whether arc k stays, if there is room for it
@@ -57,13 +56,9 @@ newNumber input k = length (stayingBelow input k)
 unfoldable pub keptArcs : List ℕ → List ℕ
 keptArcs input = take mostInTable (stayingBelow input (wholeArcs input))
 
--- a record with its spare bytes made zero
-unfoldable pub zeroed : List ℕ → List ℕ
-zeroed b = take 2 b ++ 0 ∷ 0 ∷ drop 4 b
-
 -- the mended table
 unfoldable pub mendedTable : List ℕ → List ℕ
-mendedTable input = flatMap (λ k. zeroed (recordAt input k)) (keptArcs input)
+mendedTable input = flatMap (recordAt input) (keptArcs input)
 
 -- ---- what is changed or lost
 
@@ -72,7 +67,6 @@ abbrev pub reasonFor : Fault → ℕ → Reason
 reasonFor Node new = BadNode
 reasonFor EqualEnds new = SameEnds
 reasonFor Length new = TooLong
-reasonFor Spare new = if ltb new mostInTable then SpareUsed else PastLimit
 reasonFor Sound new = if ltb new mostInTable then Unchanged else PastLimit
 
 abbrev pub reasonAt : List ℕ → ℕ → Reason
@@ -84,27 +78,15 @@ reasonNumber Unchanged = 0
 reasonNumber BadNode = 1
 reasonNumber SameEnds = 2
 reasonNumber TooLong = 3
-reasonNumber SpareUsed = 4
 reasonNumber PastLimit = 5
 reasonNumber TornEnd = 6
 
--- whether it stands in the list
-abbrev pub isListed : Reason → Bool
-isListed Unchanged = false
-isListed BadNode = true
-isListed SameEnds = true
-isListed TooLong = true
-isListed SpareUsed = true
-isListed PastLimit = true
-isListed TornEnd = true
-
--- whether the arc is lost
+-- whether the arc is lost: then it stands in the list
 abbrev pub isLost : Reason → Bool
 isLost Unchanged = false
 isLost BadNode = true
 isLost SameEnds = true
 isLost TooLong = true
-isLost SpareUsed = false
 isLost PastLimit = true
 isLost TornEnd = true
 
@@ -127,7 +109,7 @@ tornEnd input = if eqb (length input % 16) 0 then [] else changed (wholeArcs inp
 
 -- whether arc k has a change, and which; the changes of m arcs from k on
 abbrev pub isChanged : List ℕ → ℕ → Bool
-isChanged input k = isListed (reasonAt input k)
+isChanged input k = isLost (reasonAt input k)
 
 abbrev pub changeAt : List ℕ → ℕ → Change
 changeAt input k = changed k (reasonAt input k) (newNumber input k)
@@ -214,6 +196,5 @@ pub data Listed (input : List ℕ) : Change → Type 0 where
   bad-node : (k : ℕ) → k < wholeArcs input → faultAt input k ≡ Node → Listed input (lost k 1)
   equal-ends : (k : ℕ) → k < wholeArcs input → faultAt input k ≡ EqualEnds → Listed input (lost k 2)
   bad-length : (k : ℕ) → k < wholeArcs input → faultAt input k ≡ Length → Listed input (lost k 3)
-  spare-zeroed : (k new : ℕ) → KeptAs input k new → faultAt input k ≡ Spare → Listed input (record { old = k; reason = 4; new = new })
   past-limit : (k : ℕ) → k < wholeArcs input → stays input k ≡ true → mostInTable ≤ newNumber input k → Listed input (lost k 5)
   torn-end : (length input % 16 ≡ 0 → ⊥) → Listed input (lost (wholeArcs input) 6)

@@ -8,7 +8,7 @@ use lib.Dec.{eqb, leb, ltb}
 use lib.ListN.{length, getD, take}
 use Rattle.laws.specs.Choosing.{if_then_else_, keep, leastFrom, lexBy, firstBy}
 use Rattle.problem.specs.declared.Exposure.{Exposure}
-use Rattle.problem.specs.Exposures.{toNothing, toAll, common, size, sharing}
+use Rattle.problem.specs.Exposures.{toNothing, toAll, common, spansIn, size, sharing}
 use Rattle.problem.specs.Routes.{Route, rankKey}
 
 -- main and standby may be the same route
@@ -19,13 +19,17 @@ pub record Pair : Type 0 where
 abbrev pub pair : Route → Route → Pair
 pair m s = record { main = m; standby = s }
 
--- how many risks are on both routes
+-- how many risks lie on both routes, and spans that both cross (T-03)
 unfoldable pub sharedCount : Pair → ℕ
 sharedCount p = sharing (p .main .exposure) (p .standby .exposure)
 
 -- the field of those risks: bit r for risk r
 unfoldable pub sharedRisks : Pair → ℕ
 sharedRisks p = common (p .main .exposure) (p .standby .exposure) .risks
+
+-- how many those spans alone are
+unfoldable pub sharedSpans : Pair → ℕ
+sharedSpans p = spansIn (common (p .main .exposure) (p .standby .exposure))
 
 unfoldable pub total : Pair → ℕ
 total p = p .main .metres + p .standby .metres

@@ -6,17 +6,22 @@ use mathlib.Core.Path.{_≡_}
 use lib.Dec.{eqb, ltb}
 use lib.ListN.{length, getD, take, drop, replicate}
 use Rattle.laws.specs.Choosing.{if_then_else_}
+use Rattle.problem.specs.declared.Arc.{Arc}
 use Rattle.problem.specs.declared.Request.{Request}
 use Rattle.problem.specs.Table.{lastNode, mostReach, mostAllowance, mostTableBytes, replySize, numberAt, bytesOf, over, arcsOf, arcsNumber, allSound}
+use Rattle.problem.specs.Spans.{plannedArcs}
 use Rattle.problem.specs.Routes.{Mesh, mesh, Route, ranking}
-use Rattle.problem.specs.Pairs.{Pair, sharedRisks, sharedCount, floor, every, best, ranked, verdict}
+use Rattle.problem.specs.Pairs.{Pair, sharedRisks, sharedCount, sharedSpans, floor, every, best, ranked, verdict}
 
 abbrev pub request : (source terminal reach allowance : ℕ) → Request
 request source terminal reach allowance = record { source = source; terminal = terminal; reach = reach; allowance = allowance }
 
--- the mesh that a call is planned over
+-- the mesh of these arcs and a request; and the mesh that a call is planned over, its spans known by their first arcs
+abbrev pub meshOver : List Arc → Request → Mesh
+meshOver arcs q = mesh arcs (q .source) (q .terminal) (q .reach)
+
 abbrev pub meshOf : List ℕ → Request → Mesh
-meshOf table q = mesh (arcsOf table) (q .source) (q .terminal) (q .reach)
+meshOf table q = meshOver (plannedArcs table) q
 
 -- what a call gives: the number returned, and the bytes written, none with a refusal
 pub record Answer : Type 0 where
@@ -37,7 +42,7 @@ placesOf r = r .arcs ++ replicate (32 - length (r .arcs)) 255
 -- the 96 bytes
 unfoldable pub replyOf : (verdict floor ranked : ℕ) → Pair → List ℕ
 replyOf verdict floor ranked p =
-    verdict ∷ sharedCount p ∷ floor ∷ length (p .main .arcs) ∷ length (p .standby .arcs) ∷ 0 ∷ 0 ∷ 0 ∷ []
+    verdict ∷ sharedCount p ∷ floor ∷ length (p .main .arcs) ∷ length (p .standby .arcs) ∷ sharedSpans p ∷ 0 ∷ 0 ∷ []
     ++ bytesOf 4 ranked
     ++ bytesOf 4 (p .main .metres)
     ++ bytesOf 4 (p .standby .metres)
@@ -55,6 +60,9 @@ sharedIn reply = getD reply 1 0
 
 abbrev pub floorIn : List ℕ → ℕ
 floorIn reply = getD reply 2 0
+
+abbrev pub sharedSpansIn : List ℕ → ℕ
+sharedSpansIn reply = getD reply 5 0
 
 abbrev pub rankedIn : List ℕ → ℕ
 rankedIn reply = numberAt reply 8 4

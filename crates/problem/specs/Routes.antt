@@ -1,4 +1,4 @@
--- 01, Routes and their ranking: the mesh, ways, paths, routes, all paths, the ranking; the shortest length free of some risks. Assumes nothing.
+-- 01, Routes and their ranking: the mesh, ways, paths, routes, all paths, the ranking; the shortest length free of some risks and spans. Assumes nothing.
 use Prim.Native.Nat.{ℕ, zero, suc, _+_, _≤_, _<_}
 use mathlib.Core.Bool.{Bool, true, false, _&&_}
 use mathlib.Core.List.{List, [], _∷_, _++_, map}
@@ -25,7 +25,7 @@ mesh arcs source terminal reach = record { arcs = arcs; source = source; termina
 module _ (arcs : List Arc) where
   -- arc number k; past the table's end, an arc of no length
   abbrev pub arcAt : ℕ → Arc
-  arcAt k = getD arcs k (record { tail = 0; head = 0; spare = 0; metres = 0; risks = 0 })
+  arcAt k = getD arcs k (record { tail = 0; head = 0; span = 0; metres = 0; risks = 0 })
 
   -- the length of a list of arc numbers: metres are added, and nothing is rounded
   unfoldable pub metresOf : List ℕ → ℕ

@@ -1,6 +1,6 @@
 -- 01, The span table: the limits, numbers in bytes, the arc of 16 bytes, its faults, the table. Assumes nothing.
 use Prim.Native.Nat.{ℕ, zero, suc, _+_, _*_, _/_, _%_, _≤_, _<_}
-use mathlib.Core.Bool.{Bool, _||_, not}
+use mathlib.Core.Bool.{Bool, _||_}
 use mathlib.Core.List.{List, [], _∷_, _++_}
 use mathlib.Core.Path.{_≡_}
 use lib.Dec.{eqb, ltb}
@@ -8,7 +8,7 @@ use lib.ListN.{length, getD, take, drop}
 use Rattle.laws.specs.Choosing.{if_then_else_}
 use Rattle.problem.specs.declared.Arc.{Arc}
 use Rattle.problem.specs.declared.Fault.{Fault}
-use Rattle.problem.specs.declared.Fault.the-variants.{Sound, Node, EqualEnds, Length, Spare}
+use Rattle.problem.specs.declared.Fault.the-variants.{Sound, Node, EqualEnds, Length}
 
 -- nodes are numbered from 0 to this
 abbrev pub lastNode : ℕ
@@ -25,9 +25,9 @@ mostArcs = 31
 abbrev pub riskWidth : ℕ
 riskWidth = 64
 
--- what two routes can share at most
+-- what two routes can share at most: every risk, and the span of each arc
 abbrev pub mostShared : ℕ
-mostShared = riskWidth
+mostShared = riskWidth + mostArcs
 
 abbrev pub mostArcMetres : ℕ
 mostArcMetres = 2000000
@@ -45,6 +45,10 @@ mostTableBytes = 2048
 -- how many arcs the largest table has
 abbrev pub mostInTable : ℕ
 mostInTable = mostTableBytes / 16
+
+-- what an exposure tells apart: the risks, and a span for each arc of the largest table
+abbrev pub hazards : ℕ
+hazards = riskWidth + mostInTable
 
 abbrev pub replySize : ℕ
 replySize = 96
@@ -71,9 +75,9 @@ over bytes buffer = bytes ++ drop (length bytes) buffer
 abbrev pub recordAt : List ℕ → ℕ → List ℕ
 recordAt bytes k = take 16 (drop (16 * k) bytes)
 
--- the arc that 16 bytes say
+-- the arc that 16 bytes say; bytes 2 and 3 are its span's number, 0 where that is not known (T-03)
 unfoldable pub arcOf : List ℕ → Arc
-arcOf b = record { tail = getD b 0 0; head = getD b 1 0; spare = numberAt b 2 2; metres = numberAt b 4 4; risks = numberAt b 8 8 }
+arcOf b = record { tail = getD b 0 0; head = getD b 1 0; span = numberAt b 2 2; metres = numberAt b 4 4; risks = numberAt b 8 8 }
 
 -- the first n arcs of a table; arc number = position, from 0
 unfoldable pub firstArcs : ℕ → List ℕ → List Arc
@@ -83,13 +87,12 @@ firstArcs (suc n) table = arcOf (take 16 table) ∷ firstArcs n (drop 16 table)
 unfoldable pub arcsOf : List ℕ → List Arc
 arcsOf table = firstArcs (length table / 16) table
 
--- an arc whose every field is in its range
+-- an arc whose every field is in its range; any span number is
 pub record SoundArc (a : Arc) : Type 0 where
   pub tail-node : a .tail ≤ lastNode
   pub head-node : a .head ≤ lastNode
   pub ends-differ : a .tail ≡ a .head → ⊥
   pub metres-range : a .metres ≤ mostArcMetres
-  pub spare-zero : a .spare ≡ 0
 
 -- a fault that an arc has, whatever its others
 pub data HasFault (a : Arc) : Fault → Type 0 where
@@ -97,7 +100,6 @@ pub data HasFault (a : Arc) : Fault → Type 0 where
   head-too-high : lastNode < a .head → HasFault a Node
   ends-equal : a .tail ≡ a .head → HasFault a EqualEnds
   too-long : mostArcMetres < a .metres → HasFault a Length
-  spare-used : (a .spare ≡ 0 → ⊥) → HasFault a Spare
 
 -- the first fault of an arc, in order
 unfoldable pub faultOf : Arc → Fault
@@ -105,8 +107,7 @@ faultOf a =
     if ltb lastNode (a .tail) || ltb lastNode (a .head) then Node
     else (if eqb (a .tail) (a .head) then EqualEnds
     else (if ltb mostArcMetres (a .metres) then Length
-    else (if not (eqb (a .spare) 0) then Spare
-    else Sound)))
+    else Sound))
 
 -- the number of each
 abbrev pub faultNumber : Fault → ℕ
@@ -114,7 +115,6 @@ faultNumber Sound = 0
 faultNumber Node = 20
 faultNumber EqualEnds = 21
 faultNumber Length = 22
-faultNumber Spare = 23
 
 -- the number of an arc's first fault; 0 for a sound arc
 abbrev pub arcNumber : Arc → ℕ

@@ -9,10 +9,8 @@ pub const LAST_NODE: u8 = 31;
 
 pub const NODES: usize = LAST_NODE as usize + 1;
 
-// Risks are numbered from 0 to one below RISK_WIDTH; two routes share at most MOST_SHARED.
+// Risks are numbered from 0 to one below RISK_WIDTH.
 pub const RISK_WIDTH: u8 = 64;
-
-pub const MOST_SHARED: u64 = RISK_WIDTH as u64;
 
 pub const MOST_ARC_METRES: u32 = 2000000;
 
@@ -27,6 +25,9 @@ pub const MOST_TABLE_BYTES: usize = 2048;
 
 pub const MOST_IN_TABLE: usize = MOST_TABLE_BYTES / ARC_BYTES;
 
+// What an exposure can tell apart: the risks, and a span for each arc of the largest table.
+pub const HAZARDS: u8 = RISK_WIDTH + MOST_IN_TABLE as u8;
+
 // The longest table that is mended (T-01).
 pub const MOST_FIELD_BYTES: usize = 4096;
 
@@ -35,11 +36,11 @@ pub const REPLY_SIZE: usize = 96;
 // A route's places in the reply.
 pub const PLACES: usize = 32;
 
-// One direction of one span: the fields of a table's record of 16 bytes (01, The span table).
+// One direction of one span: the fields of a table's record of 16 bytes (01, The span table; T-03: the span's number, 0 where it is not known).
 pub struct Arc {
     pub tail: u8,
     pub head: u8,
-    pub spare: u16,
+    pub span: u16,
     pub metres: u32,
     pub risks: u64,
 }
@@ -50,7 +51,6 @@ pub enum Fault {
     Node,
     EqualEnds,
     Length,
-    Spare,
 }
 
 // The number of each. It is returned with 256 times the arc's number added.
@@ -62,7 +62,6 @@ pub fn fault_number(f: Fault) -> u32
         Fault::Node => 20,
         Fault::EqualEnds => 21,
         Fault::Length => 22,
-        Fault::Spare => 23,
     }
 }
 
@@ -72,7 +71,6 @@ pub enum Reason {
     BadNode,
     SameEnds,
     TooLong,
-    SpareUsed,
     PastLimit,
     TornEnd,
 }
@@ -86,16 +84,17 @@ pub fn reason_number(r: Reason) -> u8
         Reason::BadNode => 1,
         Reason::SameEnds => 2,
         Reason::TooLong => 3,
-        Reason::SpareUsed => 4,
         Reason::PastLimit => 5,
         Reason::TornEnd => 6,
     }
 }
 
-// What an arc or a route is exposed to, and may have in common with another: its risks, bit r for risk r.
-// Asked through crate exposure alone; net and layout hold one in a word, and the reply has the risks that two share.
+// What an arc or a route is exposed to, and may have in common with another: its risks, bit r for risk r, and its spans, bit s - 1 for span s, the first 64 of them in
+// one field and the others in another. Asked through crate exposure alone; net and layout hold one in words, and the reply has the risks that two share.
 pub struct Exposure {
     pub risks: u64,
+    pub low: u64,
+    pub high: u64,
 }
 
 // What a call asks for: two nodes, the longest that a route may be, and how many routes may be tried as main.

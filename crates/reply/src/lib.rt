@@ -13,15 +13,25 @@ pub fn write(reply: &mut [u8], verdict: u8, floor: u8, ranked: u32, main: Track,
     requires { ⌜ (replySize ≤ length (now reply)) × Fit main × Fit standby ⌝ }
     ensures { λ _. ⌜ now (reply .exit) ≡ replyOf verdict floor ranked (pairIn main standby) ++ drop replySize (now (reply .entry)) ⌝ }
 {
-    let shared = exposure::sharing(main.exposure, standby.exposure) as u8;
-    let counts = [verdict, shared, floor, main.count, standby.count, 0, 0, 0];
+    let both = exposure::common(main.exposure, standby.exposure);
+    let shared = exposure::size(both) as u8;
+    let spans = exposure::spans(both) as u8;
+    let counts = [
+        verdict,
+        shared,
+        floor,
+        main.count,
+        standby.count,
+        spans,
+        0,
+        0,
+    ];
     let at = octets::copy(reply, 0, &counts);
     let at = octets::put_number(reply, at, 4, ranked as u64);
     let at = octets::put_number(reply, at, 4, main.metres as u64);
     let at = octets::put_number(reply, at, 4, standby.metres as u64);
     let at = octets::put_number(reply, at, 4, 0);
-    let risks = exposure::risks(exposure::common(main.exposure, standby.exposure));
-    let at = octets::put_number(reply, at, 8, risks);
+    let at = octets::put_number(reply, at, 8, exposure::risks(both));
     let at = octets::copy(reply, at, &main.arcs);
     octets::copy(reply, at, &standby.arcs);
 }

@@ -6,12 +6,15 @@ ghost use mathlib.Core.Path.{_≡_};
 ghost use mathlib.Core.Bool.{true};
 ghost use Prim.Native.Nat.{_<_, _≤_};
 ghost use lib.ListN.{length};
-ghost use Rattle.problem.specs.Table.{lastNode, mostShared, mostReach};
+ghost use Rattle.problem.specs.Table.{lastNode, hazards, mostReach};
 ghost use Rattle.net.specs.Net.{Net, arcsIn, meshIn, wordAt};
 ghost use Rattle.net.specs.Search.{behind};
 ghost use Rattle.standby.specs.Standby.{EveryDoor, hopAt, Seeking};
 ghost use Rattle.standby.specs.Ahead.{quest, NoneBelow, leastOf};
 ghost use Rattle.standby.specs.Labels.{workAt, labelWords, Known, Shorter, Frame, Cleared, Labelled, Sought};
+
+// No two share more.
+const MOST_SHARED: u64 = problem::HAZARDS as u64;
 
 // An arc looked at.
 enum Hop {
@@ -30,7 +33,7 @@ fn door(net: &[u64], main: Exposure) -> u64
     ensures { λ r. ⌜ EveryDoor (meshIn (now (net .entry))) main r ⌝ }
 {
     let n = net::door_count(net);
-    let mut least = problem::MOST_SHARED;
+    let mut least = MOST_SHARED;
     let mut j = 0;
     while j < n {
         let shared = exposure::sharing(main, net::door_exposure(net, j));
@@ -54,7 +57,7 @@ fn look(
     door: u64,
     least: u64,
 ) -> Hop
-    requires { ⌜ Net (now net) × (i < length (arcsIn (now net))) × (metres ≤ mostReach) × (door ≤ mostShared) ⌝ }
+    requires { ⌜ Net (now net) × (i < length (arcsIn (now net))) × (metres ≤ mostReach) × (door ≤ hazards) ⌝ }
     ensures { λ r. ⌜ r ≡ hopAt (now (net .entry)) main door least (behind met metres exposure) i ⌝ }
 {
     let head = net::head(net, i);

@@ -21,13 +21,9 @@ too-long : tie.Need-returns-4
 unfolding faultOf
 too-long c = search (picks, arith)
 
-spare-used : tie.Need-returns-5
-unfolding faultOf
-spare-used c = search (picks, arith)
-
-sound : tie.Need-returns-6
+sound : tie.Need-returns-5
 unfolding faultOf
 sound c = search (picks, arith)
 
 pub fault-spec : {M : Type 1} → statement M
-fault-spec = tie.close (tie.spec tail-out head-out ends-equal too-long spare-used sound)
+fault-spec = tie.close (tie.spec tail-out head-out ends-equal too-long sound)

@@ -1,6 +1,7 @@
 -- `cores::smaller_core` meets its contract. The invariant: what is left of the core holds, and the cores of the store are as they were. Assumes nothing.
 use Prim.Native.Nat.{_-_, _≤_}
 use native.Mathlib.Omega.{arith}
+use Rattle.problem.specs.Table.{hazards}
 use Rattle.net.specs.Net.{meshIn}
 use Rattle.standby.specs.Ahead.{quest, NoneBelow}
 use Rattle.cores.specs.Cores.{CoresKept}
@@ -9,16 +10,13 @@ use Rattle.cores.proofs.smaller_core.Statement.{statement}
 use Rattle.cores.proofs.smaller_core.Tie as tie
 
 abbrev Inv-loop : tie.InvT-loop
-Inv-loop net store₀ nodes bound core₀ r₀ store core r = (r ≤ 64) × NoneBelow (quest (meshIn net) core nodes) bound × CoresKept store₀ store
+Inv-loop net store₀ nodes bound core₀ r₀ store core r = (r ≤ hazards) × NoneBelow (quest (meshIn net) core nodes) bound × CoresKept store₀ store
 
 abbrev μ-loop : tie.MeasureT-loop
-μ-loop net store₀ nodes bound core₀ r₀ store core r = 64 - r
+μ-loop net store₀ nodes bound core₀ r₀ store core r = hazards - r
 
 loop-holds : tie.Need-loop-holds Inv-loop μ-loop
 loop-holds c = (omega arith, c .before .before .pre .2, kept-same _)
-
-cast-loop : tie.Need-cast-loop Inv-loop μ-loop
-cast-loop c = omega arith
 
 leave-out-requires : tie.Need-leave-out-requires Inv-loop μ-loop
 leave-out-requires c κs =
@@ -50,7 +48,6 @@ smaller-core-spec =
     Inv-loop
     μ-loop
     loop-holds
-    cast-loop
     leave-out-requires
     add-r
     loop-less

@@ -1,11 +1,11 @@
--- `exposure::joined` meets its contract: the bits of either. Assumes nothing.
+-- `exposure::joined` meets its contract: the bits of either, field by field. Assumes nothing.
 use mathlib.Core.Path.{refl}
-use Rattle.problem.specs.Exposures.{joined}
+use Rattle.problem.specs.Exposures.{fieldOf, joined}
 use Rattle.exposure.proofs.joined.Statement.{statement}
 use Rattle.exposure.proofs.joined.Tie as tie
 
 returns : tie.Need-returns
-unfolding joined
+unfolding joined fieldOf
 returns c = refl
 
 pub joined-spec : {M : Type 1} → statement M

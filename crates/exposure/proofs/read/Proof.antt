@@ -1,4 +1,4 @@
--- `exposure::read` meets its contract: one word is read. Assumes nothing.
+-- `exposure::read` meets its contract: three words are read. Assumes nothing.
 use mathlib.Core.Path.{refl}
 use borrow.Author.Needs.{needs}
 use Rattle.exposure.specs.Words.{exposureAt}
@@ -10,4 +10,15 @@ unfolding exposureAt
 returns c = refl
 
 pub read-spec : {M : Type 1} → statement M
-read-spec = tie.close (tie.spec (λ c. search needs) (λ c. search needs) returns)
+read-spec =
+    tie.close
+    (tie.spec
+    (λ c. search needs)
+    (λ c. search needs)
+    (λ c. search needs)
+    (λ c. search needs)
+    (λ c. search needs)
+    (λ c. search needs)
+    (λ c. search needs)
+    (λ c. search needs)
+    returns)

@@ -1,4 +1,5 @@
--- `exposure::size` meets its contract: how many ones its field has. Assumes nothing.
+-- `exposure::size` meets its contract: how many ones the field of its risks has, and its spans. Assumes nothing.
+use native.Mathlib.Omega.{arith}
 use borrow.Author.Needs.{needs}
 use Rattle.problem.specs.Exposures.{size}
 use Rattle.exposure.proofs.size.Statement.{statement}
@@ -6,7 +7,10 @@ use Rattle.exposure.proofs.size.Tie as tie
 
 returns : tie.Need-returns
 unfolding size
-returns c = c .ones .ensures
+returns c =
+    let risks = c .before .ones .ensures in
+    let spans = c .spans .ensures in
+    (omega (arith, risks .0, spans .0), omega (arith, risks .1, spans .1))
 
 pub size-spec : {M : Type 1} → statement M
-size-spec = tie.close (tie.spec (λ c κs. search needs) (λ c. search needs) returns)
+size-spec = tie.close (tie.spec (λ c κs. search needs) (λ c. search needs) (λ c κs. search needs) (λ c. search needs) returns)

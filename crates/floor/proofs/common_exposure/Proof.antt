@@ -4,8 +4,8 @@ use mathlib.Core.Path.{refl}
 use Prim.Native.Nat.{_≤_, _-_}
 use native.Mathlib.Omega.{arith}
 use borrow.Author.Needs.{needs}
-use Rattle.problem.specs.Table.{mostShared}
-use Rattle.problem.specs.Reply.{meshOf}
+use Rattle.problem.specs.Table.{hazards, arcsOf}
+use Rattle.problem.specs.Reply.{meshOver}
 use Rattle.problem.proofs.PathLaws.{sound-heads}
 use Rattle.floor.proofs.AskLaws.{narrowed-says, narrowed-sure}
 use Rattle.floor.proofs.CommonLaws.{Left, left-start, left-sure, left-on, left-end}
@@ -13,20 +13,20 @@ use Rattle.floor.proofs.common_exposure.Statement.{statement}
 use Rattle.floor.proofs.common_exposure.Tie as tie
 
 abbrev Inv-loop : tie.InvT-loop
-Inv-loop table q left₀ r₀ left r = (r ≤ mostShared) × Left (meshOf table q) left r
+Inv-loop table q left₀ r₀ left r = (r ≤ hazards) × Left (meshOver (arcsOf table) q) left r
 
 abbrev μ-loop : tie.MeasureT-loop
-μ-loop table q left₀ r₀ left r = mostShared - r
+μ-loop table q left₀ r₀ left r = hazards - r
 
 -- what clearing leaves
-begun : (c : tie.After-narrow Inv-loop μ-loop) → let start = c .before .before .before .before in Left (meshOf (start .args .table .now) (start .args .q)) (c .narrow .result) 0
+begun : (c : tie.After-narrow Inv-loop μ-loop) → let start = c .before .before .before .before in Left (meshOver (arcsOf (start .args .table .now)) (start .args .q)) (c .narrow .result) 0
 begun c = left-start _ _ _ (c .before .all .ensures) (rw (c .narrow .ensures) (narrowed-says _ _ _ (c .before .before .clear .ensures .clearing .avoids _)))
 
 sure : tie.Need-returns Inv-loop μ-loop
 sure c =
     let narrowing = c .before in
     let start = narrowing .before .before .before .before in
-    left-end _ (sound-heads _ (start .pre .0 .sound)) (start .pre .0 .source-node) _ mostShared refl
+    left-end _ (sound-heads _ (start .pre .0 .sound)) (start .pre .0 .source-node) _ hazards refl
     (left-sure _ _ (begun narrowing)
     (rw (narrowing .narrow .ensures) (narrowed-sure _ _ _ _ (start .pre .1) (rw (c .if1 .taken) at (narrowing .before .before .clear .ensures)))))
 

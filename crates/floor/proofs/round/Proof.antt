@@ -104,6 +104,12 @@ returns c =
     let all : l .loop .k ≡ length (arcsOf (l .before .before .args .table .now)) = omega (arith, arcs-length (l .before .before .args .table .now)) in
     rw (← all) (l .loop .inv .1)
 
+-- a length within reach is no wider than the reach
+within-reach : tie.Need-cast-lengthened Inv-loop μ-loop
+within-reach c =
+    let l = c .before .before .before .before .before .before .before .before .before .before .before .before .before .before .before .before in
+    omega (arith, l .before .before .fits .reach .fits)
+
 pub round-spec : {M : Type 1} → statement M
 round-spec =
     tie.close
@@ -128,7 +134,7 @@ round-spec =
     (λ c. omega arith)
     to
     (λ c κs. search needs)
-    (λ c. omega arith)
+    within-reach
     (λ c κs. search needs)
     (λ c. omega arith)
     write-entry

@@ -3,12 +3,9 @@
 use Prim.Native.Nat.{_-_, _≤_}
 use mathlib.Core.Path.{_≡_, ap, _∙_}
 use native.Mathlib.Omega.{arith}
-use borrow.Author.Needs.{needs}
 use lib.ListN.{length}
 use Rattle.problem.specs.declared.Arc.{Arc}
-use Rattle.problem.specs.declared.Exposure.{Exposure}
 use Rattle.problem.specs.Table.{arcsOf}
-use Rattle.problem.specs.Exposures.{ofArc}
 use Rattle.problem.proofs.TableLaws.{arcs-length}
 use Rattle.layout.specs.Layout.{Doors}
 use Rattle.layout.proofs.LayoutLaws.{doors-none, doors-past, doors-more}
@@ -24,21 +21,15 @@ abbrev μ-loop : tie.MeasureT-loop
 loop-holds : tie.Need-loop-holds Inv-loop μ-loop
 loop-holds c = (omega arith, doors-none _ _ _)
 
--- where a door is found: the turn's arc, and its beginning
-abbrev arc-of : tie.After-risks Inv-loop μ-loop → tie.After-arc-at Inv-loop μ-loop
-arc-of c = c .before .before .before .before .before
-
-abbrev turn-of : tie.After-risks Inv-loop μ-loop → tie.At-loop Inv-loop μ-loop
-turn-of c = arc-of c .before .before
+-- where a door is found: the turn's beginning
+abbrev turn-of : tie.Then1 Inv-loop μ-loop → tie.At-loop Inv-loop μ-loop
+turn-of c = c .before .before .before .before .before
 
 slice-write-net : tie.Need-slice-write-net Inv-loop μ-loop
 slice-write-net c = let l = turn-of c in omega (arith, l .loop .inv .1 .size, l .loop .inv .1 .few)
 
 loop-again : tie.Need-loop-again Inv-loop μ-loop
-loop-again c =
-    let l = turn-of c in
-    let e = c .before .of-arc .ensures ∙ ap ofArc (arc-of c .arc-at .ensures) in
-    (omega arith, doors-more (l .loop .inv .1) (c .risks .ensures ∙ ap (λ (x : Exposure). x .risks) e) (omega (arith, l .loop .inv .1 .few)))
+loop-again c = let l = turn-of c in (omega arith, doors-more (l .loop .inv .1) (omega (arith, l .loop .inv .1 .few)))
 
 loop-again-2 : tie.Need-loop-again-2 Inv-loop μ-loop
 loop-again-2 c =
@@ -65,8 +56,6 @@ lay-doors-spec =
     (λ c κs. omega arith)
     (λ c. omega arith)
     (λ c. omega arith)
-    (λ c κs. search needs)
-    (λ c κs. search needs)
     (λ c. omega (arith, turn-of c .loop .inv .1 .few))
     (λ c. omega (arith, turn-of c .loop .inv .1 .few))
     slice-write-net

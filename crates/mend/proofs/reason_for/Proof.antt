@@ -6,11 +6,8 @@ use Rattle.problem.specs.Mending.{reasonFor}
 use Rattle.mend.proofs.reason_for.Statement.{statement}
 use Rattle.mend.proofs.reason_for.Tie as tie
 
-spare : tie.Need-returns-4
-spare c = let m = c .before in c .within-limit .ensures ∙ ap (λ (f : Fault). reasonFor f (m .before .before .args .new)) (sym (m .enum-told4 .given .1))
-
-sound : tie.Need-returns-5
-sound c = let m = c .before in c .within-limit2 .ensures ∙ ap (λ (f : Fault). reasonFor f (m .before .before .args .new)) (sym (m .enum-told5 .given .1))
+sound : tie.Need-returns-4
+sound c = let m = c .before in c .within-limit .ensures ∙ ap (λ (f : Fault). reasonFor f (m .before .before .args .new)) (sym (m .enum-told4 .given .1))
 
 pub reason-for-spec : {M : Type 1} → statement M
 reason-for-spec =
@@ -22,9 +19,6 @@ reason-for-spec =
     (λ c. search needs)
     (λ c κs. search needs)
     (λ c. search needs)
-    (λ c κs. search needs)
     (λ c. search needs)
     (λ c. search needs)
-    (λ c. search needs)
-    spare
     sound)

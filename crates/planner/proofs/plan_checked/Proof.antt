@@ -1,47 +1,49 @@
--- `planner::plan_checked` meets its contract: there is no route where the source's shortest way is missing or too long, and there is one otherwise. Assumes nothing.
-use mathlib.Core.Logic.{inl, inr}
+-- `planner::plan_checked` meets its contract: the arcs that are read, of the table or of the one written anew, are those that the call is planned over. Assumes nothing.
+use mathlib.Core.Path.{_≡_, ap, _∙_}
+use mathlib.Core.List.{List}
+use Prim.Native.Nat.{ℕ, _-_}
 use borrow.Author.Needs.{needs}
-use borrow.Author.Tests.{not-true, not-false}
-use Rattle.problem.specs.Table.{arcsOf}
-use Rattle.problem.specs.Exposures.{toNothing}
-use Rattle.side.specs.Side.{SideTable}
-use Rattle.planner.proofs.PlannerLaws.{none-planned, some-routes}
+use borrow.Author.Tests.{not-true}
+use lib.ListN.{length, take, drop}
+use Rattle.spans.specs.Marks.{markedTable}
+use Rattle.planner.proofs.PlannerLaws.{planned-unspanned, checked-marked, planned-marked, part-marked}
 use Rattle.planner.proofs.plan_checked.Statement.{statement}
 use Rattle.planner.proofs.plan_checked.Tie as tie
 
--- the table that is asked has nothing banned
-plain : (c : tie.After-side-table) → let a = c .before .before .before .before .args in SideTable (arcsOf (a .table .now)) (a .q .terminal) toNothing (c .side-table .result)
-plain c = rw (c .before .nothing .ensures) at (c .side-table .ensures)
+unspanned : tie.Need-returns
+unspanned c =
+    let s = c .before .before .before .before in
+    planned-unspanned (s .args .table .now) (s .args .q) (c .before .before .any .ensures .1 (not-true _ (c .before .if1 .taken))) (c .plan-read .ensures)
 
-returns : tie.Need-returns
+-- what the part of the buffer holds
+part-is : (c : tie.After-put-all) → let t = c .before .before .before .before .before .args .table .now in
+    take (length t - 0) (drop 0 (c .put-all .last .0)) ≡ markedTable t
+part-is c =
+    let s = c .before .before .before .before .before in
+    ap (λ (l : List ℕ). take (length (s .args .table .now) - 0) (drop 0 l)) (c .put-all .ensures) ∙ part-marked (s .pre) _
+
+plan-read-requires : tie.Need-plan-read-requires-2
+plan-read-requires c κs =
+    let put = c .before .before .before in
+    rw (part-is put) (checked-marked (put .before .before .before .before .before .pre))
+
+returns : tie.Need-returns-2
 returns c =
-    let tabled = c .before .before .before .before .before in
-    none-planned (tabled .before .before .before .before .pre) (plain tabled) (c .nothing2 .ensures) (inl (not-true _ (c .before .if1 .taken)))
-
-returns-2 : tie.Need-returns-2
-returns-2 c =
-    let tabled = c .before .before .before .before .before .before .before .before in
-    none-planned (tabled .before .before .before .before .pre) (plain tabled) (c .nothing3 .ensures) (inr (c .before .if2 .taken))
-
-make-requires : tie.Need-make-requires
-make-requires c κs =
-    let tabled = c .before .before .before .before .before .before .before in
-    let checked = tabled .before .before .before .before .pre in
-    (checked, (plain tabled, some-routes checked (plain tabled) (not-false _ (c .before .before .before .if1 .left)) (c .if2 .left)))
+    let put = c .before .before .before .before in
+    let s = put .before .before .before .before .before in
+    planned-marked (s .pre) (rw (part-is put) at (c .plan-read2 .ensures))
 
 pub plan-checked-spec : {M : Type 1} → statement M
 plan-checked-spec =
     tie.close
     (tie.spec
-    (λ c. search needs)
     (λ c κs. search needs)
     (λ c κs. search needs)
-    (λ c. search needs)
-    (λ c. search needs)
+    unspanned
     (λ c. search needs)
     (λ c κs. search needs)
-    returns
-    (λ c κs. search needs)
-    returns-2
-    make-requires
-    (λ c. search needs))
+    (λ c. search needs)
+    (λ c. search needs)
+    (λ c. search needs)
+    plan-read-requires
+    returns)

@@ -6,7 +6,6 @@ use mathlib.Core.Path.{_≡_, ap, _∙_}
 use native.Mathlib.Omega.{arith}
 use borrow.Author.Needs.{needs}
 use lib.ListN.{length, drop}
-use Rattle.problem.specs.declared.Exposure.{Exposure}
 use Rattle.problem.specs.Table.{replySize, bytesOf}
 use Rattle.problem.specs.Reply.{replyOf}
 use Rattle.octets.specs.Puts.{Puts}
@@ -21,13 +20,13 @@ abbrev risks-put : tie.After-copy3 → tie.After-put-number5
 risks-put c = c .before .before .before .before .before .before .before .before .before .before .before .before .before .before
 
 abbrev zero-put : tie.After-put-number5 → tie.After-put-number4
-zero-put c = c .before .before .before .before .before .before .before .before
+zero-put c = c .before .before .before .before .before
 
 abbrev counts-copied : tie.After-put-number4 → tie.After-copy
 counts-copied c = c .before .before .before .before .before .before .before .before .before .before .before .before .before .before .before .before
 
 abbrev entered : tie.After-copy → tie.Start
-entered c = c .before .before .before .before .before .before .before
+entered c = c .before .before .before .before .before .before .before .before .before
 
 abbrev start-of : tie.After-copy3 → tie.Start
 start-of c = entered (counts-copied (zero-put (risks-put c)))
@@ -38,9 +37,6 @@ record-at s = replyOf (s .args .verdict) (s .args .floor) (s .args .ranked) (pai
 
 size : (s : tie.Start) → length (record-at s) ≡ replySize
 size s = record-length (s .args .verdict) (s .args .floor) (s .args .ranked) (s .args .t5) (s .args .t6) (s .pre .1) (s .pre .2)
-
-sharing-requires : tie.Need-sharing-requires
-sharing-requires c κs = search needs
 
 cast-shared : tie.Need-cast-shared
 cast-shared c = search needs
@@ -62,7 +58,9 @@ unfolding bytesOf
 put-number-requires-2 c κs = omega arith
 
 cast-put-number-2 : tie.Need-cast-put-number-2
-cast-put-number-2 c = search needs
+cast-put-number-2 c =
+    let copied = c .before .before .before .before .before .before .before .before .before .before .before in
+    search (needs, entered copied .good .1 .1 .1 .1 .1 .0)
 
 put-number-requires-3 : tie.Need-put-number-requires-3
 unfolding bytesOf
@@ -74,7 +72,7 @@ put-number-requires-4 c κs = omega arith
 
 put-number-requires-5 : tie.Need-put-number-requires-5
 unfolding bytesOf
-put-number-requires-5 c κs = let n4 = c .before .before .before .before .before .before .before in omega (arith, n4, entered (counts-copied n4) .pre)
+put-number-requires-5 c κs = let n4 = c .before .before .before .before in omega (arith, n4, entered (counts-copied n4) .pre)
 
 copy-requires-2 : tie.Need-copy-requires-2
 unfolding bytesOf
@@ -89,19 +87,19 @@ whole : (c : tie.After-copy3) → let s = start-of c in Puts (record-at s) (s .a
 whole c =
     let c2 = c .before .before .before .before .before .before .before in
     let n5 = risks-put c in
-    let risks = n5 .before .before in
     let n4 = zero-put n5 in
     let n3 = n4 .before .before .before .before in
     let n2 = n3 .before .before .before .before in
     let n1 = n2 .before .before .before .before in
     let c1 = counts-copied n4 in
-    let shared = c1 .before .before .before in
+    let spans = c1 .before .before .before in
+    let shared = spans .before in
+    let both = shared .before in
     let s = start-of c in
-    let field = risks .risks .ensures ∙ ap (λ (e : Exposure). e .risks) (risks .before .common .ensures) in
     let two = puts-next (c1 .copy .ensures) (n1 .put-number .ensures) in
     let four = puts-next (puts-next two (n2 .put-number2 .ensures)) (n3 .put-number3 .ensures) in
     let six = puts-next (puts-next four (n4 .put-number4 .ensures)) (n5 .put-number5 .ensures) in
-    rw (← record-written (s .args .verdict) (s .args .floor) (s .args .ranked) (s .args .t5) (s .args .t6) (s .pre .1) (s .pre .2) _ _ (shared .sharing .ensures .0) field)
+    rw (← record-written (s .args .verdict) (s .args .floor) (s .args .ranked) (s .args .t5) (s .args .t6) (s .pre .1) (s .pre .2) _ (both .common .ensures) (shared .size .ensures .0) (spans .spans .ensures .0) (n5 .before .risks .ensures))
     (puts-next (puts-next six (c2 .copy2 .ensures)) (c .copy3 .ensures))
 
 same-length : tie.Need-same-length
@@ -119,8 +117,11 @@ pub write-spec : {M : Type 1} → statement M
 write-spec =
     tie.close
     (tie.spec
-    sharing-requires
+    (λ c κs. search needs)
+    (λ c κs. search needs)
     cast-shared
+    (λ c κs. search needs)
+    (λ c. search needs)
     slice-aggregate-copy
     copy-requires
     put-number-requires
@@ -129,7 +130,6 @@ write-spec =
     cast-put-number-2
     put-number-requires-3
     put-number-requires-4
-    (λ c κs. search needs)
     (λ c κs. search needs)
     put-number-requires-5
     copy-requires-2
