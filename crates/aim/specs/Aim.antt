@@ -5,9 +5,6 @@ use Rattle.problem.specs.Table.{mostAllowance}
 use Rattle.net.specs.Net.{meshIn}
 use Rattle.aim.specs.declared.Stretch.{Stretch}
 
-abbrev pub countWords : ℕ
-countWords = 1027
-
 -- a stretch of lengths within the reach
 pub record Between (net : List ℕ) (s : Stretch) : Type 0 where
   pub ordered : s .from ≤ s .to

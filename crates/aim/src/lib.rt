@@ -4,11 +4,10 @@ use look::Leg;
 use net::NO_LENGTH;
 ghost use Prim.Native.Nat.{_+_, _*_, _≤_, _<_};
 ghost use mathlib.Core.Path.{_≡_};
-ghost use lib.ListN.{length};
 ghost use Rattle.problem.specs.Table.{mostReach, mostAllowance};
 ghost use Rattle.net.specs.Net.{Net, meshIn};
 ghost use Rattle.sweep.specs.Sweep.{Sweeping};
-ghost use Rattle.aim.specs.Aim.{countWords, Between, Closer};
+ghost use Rattle.aim.specs.Aim.{Between, Closer};
 
 // What a count of routes by length holds: from which length on, in steps of how many metres, how many more are counted; then a number for each step.
 const FROM: usize = 0;
@@ -57,10 +56,7 @@ fn step_of(metres: u64, from: u64, step: u64) -> u64 {
 }
 
 // Makes ready to count from a length on.
-fn start_count(counts: &mut [u64], from: u64, step: u64, room: u64)
-    requires { ⌜ length (now counts) ≡ countWords ⌝ }
-    ensures { λ _. ⌜ length (now (counts .exit)) ≡ countWords ⌝ }
-{
+fn start_count(counts: &mut [u64; WORDS], from: u64, step: u64, room: u64) {
     let mut i: usize = 0;
     while i < WORDS {
         counts[i] = 0;
@@ -72,10 +68,7 @@ fn start_count(counts: &mut [u64], from: u64, step: u64, room: u64)
 }
 
 // Counts a route of so many metres.
-fn count(counts: &mut [u64], metres: u64)
-    requires { ⌜ length (now counts) ≡ countWords ⌝ }
-    ensures { λ _. ⌜ length (now (counts .exit)) ≡ countWords ⌝ }
-{
+fn count(counts: &mut [u64; WORDS], metres: u64) {
     let from = counts[FROM];
     let step = counts[STEP];
     let room = counts[ROOM];
@@ -89,9 +82,15 @@ fn count(counts: &mut [u64], metres: u64)
 }
 
 // Counts every route of at most `hi` metres that goes on from `at`, until there is no room.
-fn count_from(net: &[u64], counts: &mut [u64], hi: u64, at: u64, met: u64, metres: u64)
-    requires { ⌜ Sweeping (now net) hi at metres × (length (now counts) ≡ countWords) ⌝ }
-    ensures { λ _. ⌜ length (now (counts .exit)) ≡ countWords ⌝ }
+fn count_from(
+    net: &[u64; net::SIZE],
+    counts: &mut [u64; WORDS],
+    hi: u64,
+    at: u64,
+    met: u64,
+    metres: u64,
+)
+    requires { ⌜ Sweeping (now net) hi at metres ⌝ }
 {
     let n = net::arc_count(net);
     let mut i = net::first(net, at);
@@ -129,8 +128,8 @@ struct Picked {
     left: u64,
 }
 
-fn pick(counts: &[u64], s: Stretch, step: u64) -> Picked
-    requires { ⌜ (length (now counts) ≡ countWords) × (s .from ≤ s .to) × (s .to ≤ mostReach) × (step ≤ mostReach) ⌝ }
+fn pick(counts: &[u64; WORDS], s: Stretch, step: u64) -> Picked
+    requires { ⌜ (s .from ≤ s .to) × (s .to ≤ mostReach) × (step ≤ mostReach) ⌝ }
     ensures { λ r. ⌜ (s .from ≤ r .from) × (r .from ≤ s .to) × (r .left ≤ s .left) ⌝ }
 {
     let mut left = s.left;
@@ -157,10 +156,9 @@ fn pick(counts: &[u64], s: Stretch, step: u64) -> Picked
 }
 
 // One count of the lengths in a stretch. Where there are too many routes the stretch is cut to a quarter; else the end lies within one step, or past it.
-fn closer(net: &[u64], counts: &mut [u64], s: Stretch) -> Stretch
-    requires { ⌜ Net (now net) × (length (now counts) ≡ countWords) × Between (now net) s × (s .from < s .to) ⌝ }
-    ensures size { λ _. ⌜ length (now (counts .exit)) ≡ countWords ⌝ }
-    ensures closer { λ r. ⌜ Closer s r ⌝ }
+fn closer(net: &[u64; net::SIZE], counts: &mut [u64; WORDS], s: Stretch) -> Stretch
+    requires { ⌜ Net (now net) × Between (now net) s × (s .from < s .to) ⌝ }
+    ensures { λ r. ⌜ Closer s r ⌝ }
 {
     let step = (s.to - s.from) / STEPS + 1;
     start_count(counts, s.from, step, many_more(s.left));
@@ -199,7 +197,7 @@ pub struct Aim {
 }
 
 // The length at which the routes from `from` on pass `left`; or, with `past`, a length up to which they do not.
-fn find_end(net: &[u64], from: u64, to: u64, left: u64) -> Stretch
+fn find_end(net: &[u64; net::SIZE], from: u64, to: u64, left: u64) -> Stretch
     requires { ⌜ Net (now net) × (from ≤ to) × (to ≤ meshIn (now net) .reach) × (left ≤ mostAllowance) ⌝ }
     ensures { λ r. ⌜ Between (now (net .entry)) r ⌝ }
 {
@@ -227,7 +225,14 @@ fn before(cur: u64, end: u64, width: u64) -> u64
 }
 
 // Narrows the next window, if there is one, where the allowance is likely to end within it: to the lengths before its end, and then to that one length.
-pub fn take_aim(net: &[u64], allowance: u64, ranked: u64, cur: u64, width: u64, end: u64) -> Aim
+pub fn take_aim(
+    net: &[u64; net::SIZE],
+    allowance: u64,
+    ranked: u64,
+    cur: u64,
+    width: u64,
+    end: u64,
+) -> Aim
     requires { ⌜ Net (now net) × (ranked ≤ allowance) × (allowance ≤ mostAllowance) × (width ≤ mostReach) ⌝ }
     ensures { λ r. ⌜ r .width ≤ width ⌝ }
 {

@@ -27,7 +27,12 @@ pub struct Choice {
 }
 
 // How many routes are shorter than so many metres: a sweep in which no pair can get better.
-fn count_shorter(net: &[u64], store: &mut [u64], metres: u64, cap: u64) -> u64
+fn count_shorter(
+    net: &[u64; net::SIZE],
+    store: &mut [u64; cores::OWN_WORDS],
+    metres: u64,
+    cap: u64,
+) -> u64
     requires { ⌜ Net (now net) × (metres ≤ meshIn (now net) .reach) × (count (shorter metres) (routesIn (now net)) ≤ cap) ⌝ }
     requires { ⌜ Stored (now net) (now store) ⌝ }
     ensures { λ r. ⌜ r ≡ count (shorter metres) (routesIn (now (net .entry))) ⌝ }
@@ -79,7 +84,7 @@ struct Pairing {
 }
 
 // The pair whose key is `best`: the first main of its length, in depth-first order, that makes such a pair, and the first standby that makes it with that main.
-fn pair_by(net: &[u64], store: &mut [u64], best: u64) -> Pairing
+fn pair_by(net: &[u64; net::SIZE], store: &mut [u64; cores::OWN_WORDS], best: u64) -> Pairing
     requires { ⌜ Net (now net) × Readable best × Stored (now net) (now store) ⌝ }
     ensures pair { λ r. ⌜ ByKey (routesIn (now (net .entry))) best r ⌝ }
     ensures stored { λ _. ⌜ Stored (now (net .entry)) (now (store .exit)) ⌝ }
@@ -117,8 +122,8 @@ fn pair_by(net: &[u64], store: &mut [u64], best: u64) -> Pairing
 
 // The step that a settled reply ranks: the routes shorter than half the total and one more, or the main's own place where the main is as long.
 fn settled_step(
-    net: &[u64],
-    store: &mut [u64],
+    net: &[u64; net::SIZE],
+    store: &mut [u64; cores::OWN_WORDS],
     allowance: u64,
     main: u64,
     total: u64,
@@ -136,7 +141,12 @@ fn settled_step(
 }
 
 // The reply of a run that ended settled by length: what is ranked is the step that settles, not where the run ended.
-fn settled(net: &[u64], store: &mut [u64], allowance: u64, t: Tally) -> Choice
+fn settled(
+    net: &[u64; net::SIZE],
+    store: &mut [u64; cores::OWN_WORDS],
+    allowance: u64,
+    t: Tally,
+) -> Choice
     requires { ⌜ Net (now net) × (allowance ≤ mostAllowance) × Ended (now net) allowance (ByLength t) × Stored (now net) (now store) ⌝ }
     ensures { λ r. ⌜ Chosen (routesIn (now (net .entry))) allowance r ⌝ }
 {
@@ -154,7 +164,13 @@ fn settled(net: &[u64], store: &mut [u64], allowance: u64, t: Tally) -> Choice
 }
 
 // The reply of a run that ranked no more than it replies.
-fn as_ranked(net: &[u64], store: &mut [u64], allowance: u64, t: Tally, verdict: u8) -> Choice
+fn as_ranked(
+    net: &[u64; net::SIZE],
+    store: &mut [u64; cores::OWN_WORDS],
+    allowance: u64,
+    t: Tally,
+    verdict: u8,
+) -> Choice
     requires { ⌜ Net (now net) × (allowance ≤ mostAllowance) × AsRanked (routesIn (now net)) allowance t verdict × Stored (now net) (now store) ⌝ }
     ensures { λ r. ⌜ Chosen (routesIn (now (net .entry))) allowance r ⌝ }
 {
@@ -170,7 +186,12 @@ fn as_ranked(net: &[u64], store: &mut [u64], allowance: u64, t: Tally, verdict: 
 }
 
 // The pair's routes, the number ranked and the verdict, from the end of a run.
-pub fn choose(net: &[u64], store: &mut [u64], allowance: u64, run: Run) -> Choice
+pub fn choose(
+    net: &[u64; net::SIZE],
+    store: &mut [u64; cores::OWN_WORDS],
+    allowance: u64,
+    run: Run,
+) -> Choice
     requires { ⌜ Net (now net) × (allowance ≤ mostAllowance) × Ended (now net) allowance run × Stored (now net) (now store) ⌝ }
     ensures { λ r. ⌜ Chosen (routesIn (now (net .entry))) allowance r ⌝ }
 {

@@ -74,8 +74,8 @@ pub kept-then : {one two three : List ℕ} → CoresKept one two → CoresKept t
 kept-then f g = record { size-same = g .size-same ∙ f .size-same; count-same = g .count-same ∙ f .count-same; same = λ k h. g .same k h ∙ f .same k h }
 
 -- a search leaves them
-pub frame-kept : {before after : List ℕ} → length after ≡ length before → Frame before after → CoresKept before after
-frame-kept l f = record { size-same = l; count-same = f .same coreCountAt (omega arith); same = λ k h. f .same k (omega arith) }
+pub frame-kept : {before after : List ℕ} → Frame before after → CoresKept before after
+frame-kept f = record { size-same = f .size; count-same = f .same coreCountAt (omega arith); same = λ k h. f .same k (omega arith) }
 
 -- and so does a word written between the count and the cores
 pub kept-count : (store : List ℕ) (at x : ℕ) → coreCountAt < at → at < coresFrom → CoresKept store (set store at x)

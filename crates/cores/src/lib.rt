@@ -12,7 +12,7 @@ ghost use Rattle.standby.specs.Ahead.{quest, NoneBelow, leastOf};
 ghost use Rattle.cores.specs.Cores.{coresFrom, coreWords, mostWords, placeOf, Sized, Stored, Covers, Covered, CoresKept, Placed, CorePut, Remembers};
 
 // The words of the planner's own store.
-pub const OWN_WORDS: usize = 256;
+pub const OWN_WORDS: usize = standby::STORE_WORDS;
 
 // Behind the labels: how many cores there are; how many long searches were made, and how many nodes they went on from; how many nodes those went on from that
 // made cores smaller; then the cores, each an exposure, nodes and a bound.
@@ -105,8 +105,8 @@ fn spend(store: &mut [u64])
 
 // A core without r, if a search says that it holds without it.
 fn leave_out(
-    net: &[u64],
-    store: &mut [u64],
+    net: &[u64; net::SIZE],
+    store: &mut [u64; OWN_WORDS],
     core: Exposure,
     nodes: u64,
     bound: u64,
@@ -120,7 +120,7 @@ fn leave_out(
         return core;
     }
     let less = exposure::all_but(core, r);
-    let key = standby::search(net, store, less, nodes, bound);
+    let key = standby::search(net, store, less, standby::door(net, less), nodes, bound);
     spend(store);
     if key < bound {
         return core;
@@ -129,7 +129,13 @@ fn leave_out(
 }
 
 // A part of the core that holds as well: each of what it is exposed to is left out in turn, where that does no harm.
-fn smaller_core(net: &[u64], store: &mut [u64], main: Exposure, nodes: u64, bound: u64) -> Exposure
+fn smaller_core(
+    net: &[u64; net::SIZE],
+    store: &mut [u64; OWN_WORDS],
+    main: Exposure,
+    nodes: u64,
+    bound: u64,
+) -> Exposure
     requires { ⌜ Net (now net) × (coresFrom ≤ length (now store)) × NoneBelow (quest (meshIn (now net)) main nodes) bound ⌝ }
     ensures holds { λ o. ⌜ NoneBelow (quest (meshIn (now (net .entry))) o nodes) bound ⌝ }
     ensures kept { λ _. ⌜ CoresKept (now (store .entry)) (now (store .exit)) ⌝ }
@@ -176,7 +182,13 @@ fn remember(store: &mut [u64], main: Exposure, nodes: u64, bound: u64)
 }
 
 // The least of `bound` and the keys of all standbys of a main that is exposed to this, that meet none of these nodes.
-fn best(net: &[u64], store: &mut [u64], main: Exposure, nodes: u64, bound: u64) -> u64
+fn best(
+    net: &[u64; net::SIZE],
+    store: &mut [u64; OWN_WORDS],
+    main: Exposure,
+    nodes: u64,
+    bound: u64,
+) -> u64
     requires { ⌜ Net (now net) × Stored (now net) (now store) ⌝ }
     ensures least { λ r. ⌜ r ≡ leastOf (quest (meshIn (now (net .entry))) main nodes) bound ⌝ }
     ensures stored { λ _. ⌜ Stored (now (net .entry)) (now (store .exit)) ⌝ }
@@ -184,7 +196,12 @@ fn best(net: &[u64], store: &mut [u64], main: Exposure, nodes: u64, bound: u64) 
     if covered(store, main, nodes, bound) {
         return bound;
     }
-    let key = standby::search(net, store, main, nodes, bound);
+    let door = standby::door(net, main);
+    let shortest = net::lower(net, net::source(net));
+    if bound <= keys::standby_key(door, shortest) {
+        return bound;
+    }
+    let key = standby::search(net, store, main, door, nodes, bound);
     if !is_due(store) {
         return key;
     }
@@ -195,7 +212,12 @@ fn best(net: &[u64], store: &mut [u64], main: Exposure, nodes: u64, bound: u64) 
 
 // The least of `bound` and the keys of all standbys of a main that is exposed to this. No standby is shorter than the shortest way, so a bound below that length is
 // raised to it: more mains are then covered by the same core.
-pub fn best_key(net: &[u64], store: &mut [u64], main: Exposure, bound: u64) -> u64
+pub fn best_key(
+    net: &[u64; net::SIZE],
+    store: &mut [u64; OWN_WORDS],
+    main: Exposure,
+    bound: u64,
+) -> u64
     requires { ⌜ Net (now net) × Stored (now net) (now store) ⌝ }
     ensures least { λ r. ⌜ r ≡ leastKey (meshIn (now (net .entry))) main bound ⌝ }
     ensures stored { λ _. ⌜ Stored (now (net .entry)) (now (store .exit)) ⌝ }

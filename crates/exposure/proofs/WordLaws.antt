@@ -1,10 +1,11 @@
 -- What is inside another, and what is read back of an exposure put among words. Assumes nothing.
-use mathlib.Core.Path.{_≡_, sym, ap, _∙_}
+use mathlib.Core.Path.{_≡_, refl, sym, ap, _∙_}
 use mathlib.Core.Bool.{true, _&&_}
 use mathlib.Core.List.{List}
 use Prim.Native.Nat.{ℕ, zero, suc, _+_, _%_, _/_, _≤_, _<_}
 use native.Mathlib.Omega.{arith}
 use lib.Bits.{bitAnd, bitOr}
+use lib.Count.{onesIn}
 use lib.Dec.{eqb}
 use lib.ListN.{length, getD, set, length-set}
 use lib.Seq.{getD-set-same, getD-set-other}
@@ -13,7 +14,7 @@ use Rattle.laws.specs.Sets.{bit}
 use Rattle.laws.proofs.BoolLaws.{both}
 use Rattle.laws.proofs.SetLaws.{bit-empty, bit-and, bit-or, bits-ext}
 use Rattle.problem.specs.declared.Exposure.{Exposure}
-use Rattle.problem.specs.Exposures.{fieldOf, exposed}
+use Rattle.problem.specs.Exposures.{fieldOf, exposed, joined, common, spansIn, size, sharing}
 use Rattle.problem.proofs.ExposureLaws.{Inside}
 use Rattle.exposure.specs.Parts.{inside}
 use Rattle.exposure.specs.Words.{exposureWords, exposureAt, putAt}
@@ -21,6 +22,23 @@ use Rattle.exposure.specs.Words.{exposureWords, exposureAt, putAt}
 -- what has no bit has none in common with another
 pub and-none : (x y : ℕ) → x ≡ 0 → 0 ≡ bitAnd x y
 and-none x y e = sym (bits-ext (bitAnd x y) 0 (λ r. rw (bit-and, e, bit-empty) (omega arith)))
+
+-- what has no span has none in common with another
+pub common-spanless : (a b : Exposure) → a .low ≡ 0 → a .high ≡ 0 → _≡_ {A = Exposure} (record { risks = bitAnd (a .risks) (b .risks); low = 0; high = 0 }) (common a b)
+unfolding common fieldOf
+common-spanless a b low high =
+    let l : 0 ≡ bitAnd (a .low) (b .low) = and-none (a .low) (b .low) low in
+    let h : 0 ≡ bitAnd (a .high) (b .high) = and-none (a .high) (b .high) high in
+    λ i. record { risks = bitAnd (a .risks) (b .risks); low = l i; high = h i }
+
+-- how many two have in common, field by field, and what is joined to one
+pub sharing-by-field : (a b : Exposure) → sharing a b ≡ onesIn 64 (bitAnd (a .risks) (b .risks)) + (onesIn 64 (bitAnd (a .low) (b .low)) + onesIn 64 (bitAnd (a .high) (b .high)))
+unfolding sharing size spansIn common fieldOf
+sharing-by-field a b = refl
+
+pub joined-by-field : (a b : Exposure) → joined a b ≡ record { risks = bitOr (a .risks) (b .risks); low = bitOr (a .low) (b .low); high = bitOr (a .high) (b .high) }
+unfolding joined fieldOf
+joined-by-field a b = refl
 
 within : (x y : ℕ) → eqb (bitOr x y) y ≡ true → (k : ℕ) → bit x k ≤ bit y k
 within x y e k = omega (arith, bit-or x y k, ap (λ (s : ℕ). bit s k) (eqb-true (bitOr x y) y e))

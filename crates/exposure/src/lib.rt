@@ -7,6 +7,7 @@ ghost use mathlib.Core.Path.{_≡_};
 ghost use mathlib.Core.Logic.{_↔_};
 ghost use mathlib.Core.Bool.{true};
 ghost use Prim.Native.Nat.{_+_, _≤_, _<_, _^_};
+ghost use lib.Bits.{bitAnd, bitOr};
 ghost use lib.Count.{onesIn};
 ghost use lib.Dec.{eqb};
 ghost use lib.ListN.{length};
@@ -176,6 +177,21 @@ pub fn common(a: Exposure, b: Exposure) -> Exposure
     }
 }
 
+// Of what is left, what an arc and what lies on from it are exposed to as well.
+pub fn left_over(left: Exposure, a: Arc, on: Exposure) -> Exposure
+    ensures { λ o. ⌜ o ≡ common left (joined (ofArc a) on) ⌝ }
+{
+    if is_spanless(left) {
+        return Exposure {
+            risks: left.risks & (a.risks | on.risks),
+            low: 0,
+            high: 0,
+        };
+    }
+    let over = joined(of_arc(a), on);
+    common(left, over)
+}
+
 // To all of it but hazard r.
 pub fn all_but(e: Exposure, r: u8) -> Exposure
     requires { ⌜ r < hazards ⌝ }
@@ -220,6 +236,13 @@ pub fn sharing(a: Exposure, b: Exposure) -> u64
     size(common(a, b))
 }
 
+// How many risks two fields have in common.
+pub fn shared_risks(a: u64, b: u64) -> u64
+    ensures { λ o. ⌜ (o ≡ onesIn 64 (bitAnd a b)) × (o ≤ 64) ⌝ }
+{
+    ones(a & b) as u64
+}
+
 // Whether two have nothing in common.
 pub fn is_disjoint(a: Exposure, b: Exposure) -> bool
     ensures { λ o. ⌜ o ≡ disjoint a b ⌝ }
@@ -245,6 +268,13 @@ pub fn is_same(a: Exposure, b: Exposure) -> bool
         return false;
     }
     a.high == b.high
+}
+
+// Whether it is exposed to nothing.
+pub fn is_nothing(e: Exposure) -> bool
+    ensures { λ o. ⌜ (o ≡ true) ↔ (e ≡ toNothing) ⌝ }
+{
+    e.risks | e.low | e.high == 0
 }
 
 // Whether b is exposed to all that a is.
@@ -283,4 +313,25 @@ pub fn put(words: &mut [u64], at: usize, e: Exposure)
     words[at] = e.risks;
     words[at + 1] = e.low;
     words[at + 2] = e.high;
+}
+
+// How many ones a field has, by taking them away one by one: where there are few, that is quicker than to count them all.
+fn few_ones(field: u64) -> u64
+    ensures { λ o. ⌜ (o ≡ onesIn 64 field) × (o ≤ 64) ⌝ }
+{
+    let mut left = field;
+    let mut count: u64 = 0;
+    while left != 0 {
+        left = left & (left - 1);
+        count = count + 1;
+    }
+    count
+}
+
+// How many of a main's are met over a field that were not met before.
+pub fn newly(main: u64, before: u64, own: u64) -> u64
+    ensures { λ o. ⌜ (o + onesIn 64 (bitAnd main before) ≡ onesIn 64 (bitAnd main (bitOr before own))) × (o ≤ 64) ⌝ }
+{
+    let both = main & own;
+    few_ones(both - (both & before))
 }

@@ -116,9 +116,9 @@ module _ (m : Mesh) (w : Want) where
         (ne-eqb (standbyKey (sharing (w .main) (joined e (exposureOf arcs ks))) (w .metres)) (w .key) (λ same. omega (arith, same, least, shorter, shares-less ks)))
 
 -- the cores are as they were
-pub stored-arrived : (net : List ℕ) {w : Want} {v metres : ℕ} {e : Exposure} {before after : List ℕ} → length after ≡ length before → Arrived w v metres e before after → Stored net before → Stored net after
-stored-arrived net l (Arrived.same p) s = subst (λ (x : List ℕ). Stored net x) (sym p) s
-stored-arrived net l (Arrived.labelled k) s = stored-kept net (frame-kept l (k .frame)) s
+pub stored-arrived : (net : List ℕ) {w : Want} {v metres : ℕ} {e : Exposure} {before after : List ℕ} → Arrived w v metres e before after → Stored net before → Stored net after
+stored-arrived net (Arrived.same p) s = subst (λ (x : List ℕ). Stored net x) (sym p) s
+stored-arrived net (Arrived.labelled k) s = stored-kept net (frame-kept (k .frame)) s
 
-pub stored-cleared : (net : List ℕ) {before after : List ℕ} → length after ≡ length before → Cleared before after → Stored net before → Stored net after
-stored-cleared net l c s = stored-kept net (frame-kept l (c .frame)) s
+pub stored-cleared : (net : List ℕ) {before after : List ℕ} → Cleared before after → Stored net before → Stored net after
+stored-cleared net c s = stored-kept net (frame-kept (c .frame)) s

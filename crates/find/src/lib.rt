@@ -34,7 +34,12 @@ pub struct Found {
 }
 
 // Whether a route of the wanted length that is exposed to this is the wanted one.
-fn wanted(net: &[u64], store: &mut [u64], want: Want, route: Exposure) -> bool
+fn wanted(
+    net: &[u64; net::SIZE],
+    store: &mut [u64; cores::OWN_WORDS],
+    want: Want,
+    route: Exposure,
+) -> bool
     requires { ⌜ Net (now net) × Stored (now net) (now store) × InRange want ⌝ }
     ensures test { λ r. ⌜ r ≡ isWanted (meshIn (now (net .entry))) want route ⌝ }
     ensures stored { λ _. ⌜ Stored (now (net .entry)) (now (store .exit)) ⌝ }
@@ -58,7 +63,13 @@ fn shares_too_much(want: Want, e: Exposure) -> bool
 
 // Whether a way that is shorter than this, and shares no more with the main, came to v before: then nothing that goes on from here is wanted, if the wanted key
 // is the least that a standby has. Equal lengths are no reason: the first of equal routes is wanted. Where not, v is labelled. A main is never late.
-fn comes_late(store: &mut [u64], want: Want, v: u64, metres: u64, e: Exposure) -> bool
+fn comes_late(
+    store: &mut [u64; cores::OWN_WORDS],
+    want: Want,
+    v: u64,
+    metres: u64,
+    e: Exposure,
+) -> bool
     requires { ⌜ (labelWords ≤ length (now store)) × (v ≤ lastNode) ⌝ }
     ensures late { λ r. ⌜ (r ≡ true → (want .as_main ≡ false) × Shorter (now (store .entry)) v metres e) ⌝ }
     ensures arrived { λ _. ⌜ Arrived want v metres e (now (store .entry)) (now (store .exit)) ⌝ }
@@ -84,7 +95,13 @@ fn one_more(passed: u64) -> u64
 }
 
 // The search after one more route, which t holds.
-fn meet(net: &[u64], store: &mut [u64], want: Want, t: Track, s: Found) -> Found
+fn meet(
+    net: &[u64; net::SIZE],
+    store: &mut [u64; cores::OWN_WORDS],
+    want: Want,
+    t: Track,
+    s: Found,
+) -> Found
     requires { ⌜ Net (now net) × Stored (now net) (now store) × InRange want × Fit t × Fit (s .track) × (s .found ≡ false) ⌝ }
     ensures fit { λ r. ⌜ Fit (r .track) ⌝ }
     ensures sought { λ r. ⌜ soughtIn r ≡ meet (meshIn (now (net .entry))) want (soughtIn s) (routeIn t) ⌝ }
@@ -113,7 +130,7 @@ fn meet(net: &[u64], store: &mut [u64], want: Want, t: Track, s: Found) -> Found
 }
 
 // The track t with arc i at its end.
-fn over(net: &[u64], i: u64, t: Track) -> Track
+fn over(net: &[u64; net::SIZE], i: u64, t: Track) -> Track
     requires { ⌜ Net (now net) × (i < length (arcsIn (now net))) × Fit t × (t .count < mostArcs) × (t .metres ≤ mostReach) ⌝ }
     ensures { λ r. ⌜ Holds r (overArc (routeIn t) i (arcAt (arcsIn (now (net .entry))) i)) ⌝ }
 {
@@ -123,7 +140,15 @@ fn over(net: &[u64], i: u64, t: Track) -> Track
 
 // The search over all that goes on from `at`, with the track t behind it, but for what is too long, shares too much or comes late; it stops at the first
 // wanted route.
-fn seek(net: &[u64], store: &mut [u64], want: Want, at: u64, met: u64, t: Track, s: Found) -> Found
+fn seek(
+    net: &[u64; net::SIZE],
+    store: &mut [u64; cores::OWN_WORDS],
+    want: Want,
+    at: u64,
+    met: u64,
+    t: Track,
+    s: Found,
+) -> Found
     requires { ⌜ Finding (now net) want at met t × Stored (now net) (now store) × Fit (s .track) × Trails (meshIn (now net)) want (now store) ⌝ }
     ensures fit { λ r. ⌜ Fit (r .track) ⌝ }
     ensures sought { λ r. ⌜ (Sure (meshIn (now (net .entry))) want → soughtIn r ≡ soughtOn (meshIn (now (net .entry))) want at met t s) ⌝ }
@@ -161,7 +186,7 @@ fn seek(net: &[u64], store: &mut [u64], want: Want, at: u64, met: u64, t: Track,
 }
 
 // The first route, in depth-first order, that is wanted: as a main, or as a standby where its key is the least of all standbys of that main.
-pub fn first_route(net: &[u64], store: &mut [u64], want: Want) -> Found
+pub fn first_route(net: &[u64; net::SIZE], store: &mut [u64; cores::OWN_WORDS], want: Want) -> Found
     requires { ⌜ Net (now net) × Stored (now net) (now store) × InRange want ⌝ }
     ensures fit { λ r. ⌜ Fit (r .track) ⌝ }
     ensures first { λ r. ⌜ (Sure (meshIn (now (net .entry))) want → OutcomeOverAll (meshIn (now (net .entry))) want (soughtIn r)) ⌝ }

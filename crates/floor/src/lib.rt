@@ -71,10 +71,11 @@ fn round(table: &[u8], reach: u32, from: Side) -> Cleared
         let tail = a.tail as usize;
         let head = a.head as usize;
         let old = s.exposures[tail];
-        let own = exposure::of_arc(a);
+        if exposure::is_nothing(old) {
+            continue;
+        }
         let on = s.exposures[head];
-        let over = exposure::joined(own, on);
-        let new = exposure::common(old, over);
+        let new = exposure::left_over(old, a, on);
         if !exposure::is_same(new, old) {
             let from = s.entries[tail];
             let to = s.entries[head];

@@ -5,7 +5,7 @@ use Prim.Native.Nat.{ℕ, zero, suc, _+_, _-_, _/_, _%_, _^_, _≤_, _<_, min, m
 use native.Mathlib.Nat.{le-refl, lt-of-lt-of-le, pow-suc, pow-succ', div-one, div-div-eq-div-mul, div-lt-iff-lt-mul, not-suc-le-zero}
 use native.Mathlib.Omega.{arith}
 use lib.Arith.{lt-one}
-use lib.Bits.{bitAnd, bitOr, and-step, or-step, and-shr, or-shr}
+use lib.Bits.{bitAnd, bitOr, and-step, or-step, and-shr, or-shr, and-le-l, and-self}
 use lib.Count.{onesIn, ones, ones-step}
 use lib.ListN.{length}
 use lib.Pow.{pow-mono, pow-pos}
@@ -128,14 +128,19 @@ unfolding onesIn
 ones-le zero x = le-refl 0
 ones-le (suc d) x = omega (arith, ones-le d (x / 2))
 
+low-and : (x y : ℕ) → bitAnd x y % 2 ≡ min (x % 2) (y % 2)
+low-and x y = sym (bit-zero (bitAnd x y)) ∙ bit-and x y 0 ∙ rw (bit-zero x, bit-zero y)
+
+low-or : (x y : ℕ) → bitOr x y % 2 ≡ max (x % 2) (y % 2)
+low-or x y = sym (bit-zero (bitOr x y)) ∙ bit-or x y 0 ∙ rw (bit-zero x, bit-zero y)
+
 -- of two sets together, no more than of both
 pub ones-or : (d x y : ℕ) → onesIn d (bitOr x y) ≤ onesIn d x + onesIn d y
 unfolding onesIn
 ones-or zero x y = omega arith
 ones-or (suc d) x y =
     let half : bitOr x y / 2 ≡ bitOr (x / 2) (y / 2) = or-shr x y 1 in
-    let low : bitOr x y % 2 ≡ max (x % 2) (y % 2) = rw (← bit-zero (bitOr x y), ← bit-zero x, ← bit-zero y) (bit-or x y 0) in
-    rw (half, low) (omega (arith, ones-or d (x / 2) (y / 2)))
+    rw (half, low-or x y) (omega (arith, ones-or d (x / 2) (y / 2)))
 
 pub ones-empty : (d : ℕ) → onesIn d 0 ≡ 0
 unfolding onesIn
@@ -151,6 +156,45 @@ ones-single (suc d) (suc k) =
     let half : 2 ^ suc k / 2 ≡ 2 ^ k = rw pow-suc (omega arith) in
     let even : 2 ^ suc k % 2 ≡ 0 = rw pow-suc (omega arith) in
     rw (half, even) (omega (arith, ones-single d k))
+
+-- what a set has beside another: its lowest bit, and the rest
+beside-low : (x y : ℕ) → (x - bitAnd x y) % 2 ≡ x % 2 - min (x % 2) (y % 2)
+beside-low x y = omega (arith, and-step x y, and-le-l x y, and-le-l (x / 2) (y / 2))
+
+beside-rest : (x y : ℕ) → (x - bitAnd x y) / 2 ≡ x / 2 - bitAnd (x / 2) (y / 2)
+beside-rest x y = omega (arith, and-step x y, and-le-l x y, and-le-l (x / 2) (y / 2))
+
+-- of what m has in common with two sets, as many as with the first, and as many as it has with the second beside the first
+pub ones-new : (d m x y : ℕ) → onesIn d (bitAnd m (bitOr x y)) ≡ onesIn d (bitAnd m x) + onesIn d (bitAnd m y - bitAnd (bitAnd m y) x)
+unfolding onesIn
+ones-new zero m x y = refl
+ones-new (suc d) m x y =
+    let joined-low : bitAnd m (bitOr x y) % 2 ≡ min (m % 2) (max (x % 2) (y % 2)) = low-and m (bitOr x y) ∙ ap (min (m % 2)) (low-or x y) in
+    let joined-rest : bitAnd m (bitOr x y) / 2 ≡ bitAnd (m / 2) (bitOr (x / 2) (y / 2)) = and-shr m (bitOr x y) 1 ∙ ap (bitAnd (m / 2)) (or-shr x y 1) in
+    let first-rest : bitAnd m x / 2 ≡ bitAnd (m / 2) (x / 2) = and-shr m x 1 in
+    let new-rest : (bitAnd m y - bitAnd (bitAnd m y) x) / 2 ≡ bitAnd (m / 2) (y / 2) - bitAnd (bitAnd (m / 2) (y / 2)) (x / 2) =
+    beside-rest (bitAnd m y) x ∙ ap (λ (z : ℕ). z - bitAnd z (x / 2)) (and-shr m y 1) in
+    rw (joined-low, joined-rest, first-rest, new-rest, low-and m x, beside-low (bitAnd m y) x, low-and m y) (omega (arith, ones-new d (m / 2) (x / 2) (y / 2)))
+
+-- one element fewer: the lowest is taken away
+pub ones-less : (d x : ℕ) → 0 < x → x < 2 ^ d → onesIn d x ≡ suc (onesIn d (bitAnd x (x - 1)))
+unfolding onesIn
+ones-less zero x p h = absurd (omega (arith, lt-one h))
+ones-less (suc d) x p h = go (x % 2) refl (ones-less d (x / 2))
+  where
+    go : (b : ℕ) → x % 2 ≡ b → (0 < x / 2 → x / 2 < 2 ^ d → onesIn d (x / 2) ≡ suc (onesIn d (bitAnd (x / 2) (x / 2 - 1)))) → x % 2 + onesIn d (x / 2) ≡ suc (bitAnd x (x - 1) % 2 + onesIn d (bitAnd x (x - 1) / 2))
+    go zero e ih =
+        let low : bitAnd x (x - 1) % 2 ≡ 0 = low-and x (x - 1) ∙ rw e (omega arith) in
+        let half : (x - 1) / 2 ≡ x / 2 - 1 = omega arith in
+        let rest : bitAnd x (x - 1) / 2 ≡ bitAnd (x / 2) (x / 2 - 1) = and-shr x (x - 1) 1 ∙ ap (bitAnd (x / 2)) half in
+        let fewer = ih (omega arith) (div-lt-iff-lt-mul (lit< tt) .1 (rw pow-suc at h)) in
+        rw (e, low, rest) (omega (arith, fewer))
+    go (suc b) e ih =
+        let odd : x % 2 ≡ 1 = omega arith in
+        let low : bitAnd x (x - 1) % 2 ≡ 0 = low-and x (x - 1) ∙ (let even : (x - 1) % 2 ≡ 0 = omega arith in rw even (omega arith)) in
+        let half : (x - 1) / 2 ≡ x / 2 = omega arith in
+        let rest : bitAnd x (x - 1) / 2 ≡ x / 2 = and-shr x (x - 1) 1 ∙ ap (bitAnd (x / 2)) half ∙ and-self (x / 2) in
+        rw (odd, low, rest) (omega arith)
 
 -- at a width that holds the set, the count by width is the language's count of ones
 pub ones-at : (d s : ℕ) → s < 2 ^ d → onesIn d s ≡ ones s

@@ -11,13 +11,14 @@ use lib.Seq.{getD-set-same, getD-set-other, ext-getD}
 use Rattle.problem.specs.declared.Arc.{Arc}
 use Rattle.problem.specs.declared.Request.{Request}
 use Rattle.problem.specs.Table.{mostInTable, lastNode, arcsOf}
-use Rattle.problem.specs.Exposures.{toNothing, ofArc}
+use Rattle.problem.specs.Exposures.{toNothing, spanField, ofArc}
 use Rattle.problem.specs.Routes.{Mesh, arcAt, metresOf, exposureOf, Way}
 use Rattle.problem.specs.Reply.{meshOver, Checked}
 use Rattle.problem.proofs.ExposureLaws.{disjoint-nothing}
 use Rattle.problem.proofs.TableLaws.{arcs-length, sound-at}
 use Rattle.side.specs.declared.Side.{Side}
 use Rattle.side.specs.Side.{reachedAt, metresAt, SideTable}
+use Rattle.spans.specs.Marks.{NoSpan}
 use Rattle.chain.specs.Chain.{Chain}
 use Rattle.net.specs.Net.{metresFrom, headsFrom, nextFrom, restFrom, lowFrom, highFrom, firstFrom, lowerFrom, arcCountAt, doorCountAt, doorsFrom, netSize, wordAt, arcsIn, meshIn, exposureIn, doorArc, IsDoor, Chained}
 use Rattle.net.proofs.NetLaws.{arcs-count, arc-is}
@@ -105,12 +106,18 @@ fields-say a {rest} low e h m r =
     let s : rest / 256 ≡ a .span = omega arith in
     rw (t, s, h, m, r)
 
-module _ {table : List ℕ} {q : Request} {side : Side} {doors : ℕ} {chain empty with-arcs with-nodes with-doors net : List ℕ}
+-- an arc without a span is exposed to none
+unspanned : (a : Arc) → a .span ≡ 0 → (ofArc a .low ≡ 0) × (ofArc a .high ≡ 0)
+unfolding ofArc spanField
+unspanned a e = (rw e, rw e)
+
+module _ {table : List ℕ} {q : Request} {side : Side} {doors spanned : ℕ} {chain empty with-arcs with-nodes with-doors net : List ℕ}
     (checked : Checked table q) (sides : SideTable (arcsOf table) (q .terminal) toNothing side) (chained : Chain (arcsOf table) chain) (size : length empty ≡ netSize)
     (of-arcs : ArcsLaid (arcsOf table) chain empty with-arcs)
     (of-nodes : NodesLaid chain side with-arcs with-nodes)
     (of-doors : DoorsLaid (arcsOf table) (q .terminal) doors with-nodes with-doors)
-    (of-request : Spread 5 (requestWords (meshOver (arcsOf table) q) doors) arcCountAt 1 with-doors net) where
+    (of-spans : spanned ≡ 0 → NoSpan (arcsOf table))
+    (of-request : Spread 6 (requestWords (meshOver (arcsOf table) q) doors spanned) arcCountAt 1 with-doors net) where
   abbrev arcs : List Arc
   arcs = arcsOf table
 
@@ -187,6 +194,7 @@ module _ {table : List ℕ} {q : Request} {side : Side} {doors : ℕ} {chain emp
     lower-small = λ v h. rw (lower-word v h) (lower-low sides v);
     lower-terminal = lower-word terminal (checked .terminal-node) ∙ lower-reached sides terminal (sides .entries .terminal-reached) ∙ sides .entries .terminal-metres;
     exposure = exposure-word;
+    plain = λ e k h. unspanned (arcAt arcs k) (of-spans (sym (of-request .here 5 (omega arith)) ∙ e) k h);
     few-doors = omega (arith, doors-count, of-doors .few, few);
     door = door-word;
     door-inside = λ j h. omega (arith, door-kept j, of-doors .inside j (omega (arith, doors-count)));

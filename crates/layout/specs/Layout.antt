@@ -42,9 +42,9 @@ nodeColumn chain side v = nodeWords (firstIn chain v) (lowerOf (reachedAt side v
 abbrev pub NodesLaid : (chain : List ℕ) → Side → (before after : List ℕ) → Type 0
 NodesLaid chain side before after = Columns nodes (nodeColumn chain side) firstFrom nodes before after
 
--- the words behind those: the number of arcs, the request, the number of doors
-abbrev pub requestWords : Mesh → (doors : ℕ) → List ℕ
-requestWords m doors = length (m .arcs) ∷ m .terminal ∷ m .reach ∷ m .source ∷ doors ∷ []
+-- the words behind those: the number of arcs, the request, the number of doors, and whether some arc has a span
+abbrev pub requestWords : Mesh → (doors spanned : ℕ) → List ℕ
+requestWords m doors spanned = length (m .arcs) ∷ m .terminal ∷ m .reach ∷ m .source ∷ doors ∷ spanned ∷ []
 
 -- each of the first n arcs that leads into the terminal is among the doors, of which there are so many, and each door is one of these arcs; all words before the doors' are as before
 pub record Doors (n : ℕ) (arcs : List Arc) (terminal count : ℕ) (before after : List ℕ) : Type 0 where

@@ -8,6 +8,7 @@ ghost use lib.ListN.{length};
 ghost use Rattle.problem.specs.Table.{mostTableBytes, arcsOf};
 ghost use Rattle.problem.specs.Exposures.{toNothing};
 ghost use Rattle.problem.specs.Reply.{meshOver, Checked};
+ghost use Rattle.spans.specs.Marks.{SomeSpan, NoSpan};
 ghost use Rattle.side.specs.Side.{SideTable};
 ghost use Rattle.chain.specs.Chain.{chainSize};
 ghost use Rattle.net.specs.Net.{netSize};
@@ -114,6 +115,16 @@ fn lay_doors(net: &mut [u64], table: &[u8], q: Request) -> usize
     count
 }
 
+// 0 where no arc has a span.
+fn spanned(table: &[u8]) -> u64
+    ensures { λ r. ⌜ (r ≡ 0 → NoSpan (arcsOf (now (table .entry)))) × ((r ≡ 0 → ⊥) → SomeSpan (arcsOf (now (table .entry)))) ⌝ }
+{
+    if spans::any(table) {
+        return 1;
+    }
+    0
+}
+
 // Writes the table and the request as words, over whatever stands there. `side` is the side table with nothing banned.
 pub fn lay_out(net: &mut [u64], table: &[u8], q: Request, side: Side)
     requires { ⌜ Checked (now table) q ⌝ }
@@ -126,12 +137,14 @@ pub fn lay_out(net: &mut [u64], table: &[u8], q: Request, side: Side)
     lay_arcs(net, table, &chain);
     lay_nodes(net, &chain, side);
     let doors = lay_doors(net, table, q);
+    let spanned = spanned(table);
     let request = [
         count as u64,
         q.terminal as u64,
         q.reach as u64,
         q.source as u64,
         doors as u64,
+        spanned,
     ];
     spread(net, REQUEST_FROM, 1, &request);
 }

@@ -9,7 +9,12 @@ ghost use Rattle.cores.specs.Cores.{Stored};
 ghost use Rattle.mains.specs.Mains.{bestWith, tried};
 
 // The key of the best pair after a main, at whose end `main` lies behind, was tried with every standby.
-fn best_with(net: &[u64], store: &mut [u64], main: Behind, best: u64) -> u64
+fn best_with(
+    net: &[u64; net::SIZE],
+    store: &mut [u64; cores::OWN_WORDS],
+    main: Behind,
+    best: u64,
+) -> u64
     requires { ⌜ Net (now net) × (main .metres ≤ mostReach) × Stored (now net) (now store) ⌝ }
     ensures best { λ r. ⌜ r ≡ bestWith (meshIn (now (net .entry))) main best ⌝ }
     ensures stored { λ _. ⌜ Stored (now (net .entry)) (now (store .exit)) ⌝ }
@@ -23,7 +28,13 @@ fn best_with(net: &[u64], store: &mut [u64], main: Behind, best: u64) -> u64
 }
 
 // The tally after one more main; past the cap it only says that there was one more.
-pub fn try_main(net: &[u64], store: &mut [u64], cap: u64, main: Behind, t: Tally) -> Tally
+pub fn try_main(
+    net: &[u64; net::SIZE],
+    store: &mut [u64; cores::OWN_WORDS],
+    cap: u64,
+    main: Behind,
+    t: Tally,
+) -> Tally
     requires { ⌜ Net (now net) × (main .metres ≤ mostReach) × Stored (now net) (now store) ⌝ }
     ensures tally { λ r. ⌜ r ≡ tried (meshIn (now (net .entry))) cap main t ⌝ }
     ensures stored { λ _. ⌜ Stored (now (net .entry)) (now (store .exit)) ⌝ }

@@ -53,8 +53,12 @@ sourceAt = suc reachAt
 abbrev pub doorCountAt : ℕ
 doorCountAt = suc sourceAt
 
+-- 0 where no arc has a span
+abbrev pub spannedAt : ℕ
+spannedAt = suc doorCountAt
+
 abbrev pub doorsFrom : ℕ
-doorsFrom = suc doorCountAt
+doorsFrom = suc spannedAt
 
 abbrev pub netSize : ℕ
 netSize = doorsFrom + mostInTable
@@ -114,8 +118,9 @@ pub record Chained (m : Mesh) (net : List ℕ) : Type 0 where
   pub lower : (v : ℕ) → v ≤ lastNode → {ks : List ℕ} → Way (m .arcs) v (m .terminal) ks → wordAt net (lowerFrom + v) ≤ metresOf (m .arcs) ks
   pub lower-small : (v : ℕ) → v ≤ lastNode → wordAt net (lowerFrom + v) < 2 ^ 32
   pub lower-terminal : wordAt net (lowerFrom + m .terminal) ≡ 0
-  -- to what each arc is exposed
+  -- to what each arc is exposed; where no arc has a span, to none
   pub exposure : (k : ℕ) → k < length (m .arcs) → exposureIn net k ≡ ofArc (arcAt (m .arcs) k)
+  pub plain : wordAt net spannedAt ≡ 0 → (k : ℕ) → k < length (m .arcs) → (ofArc (arcAt (m .arcs) k) .low ≡ 0) × (ofArc (arcAt (m .arcs) k) .high ≡ 0)
   -- each arc into the terminal is a door, and each door is an arc
   pub few-doors : wordAt net doorCountAt ≤ mostInTable
   pub door : (k : ℕ) → k < length (m .arcs) → arcAt (m .arcs) k .head ≡ m .terminal → IsDoor k (wordAt net doorCountAt) net

@@ -6,10 +6,10 @@ ghost use lib.ListN.{length};
 ghost use Rattle.problem.specs.Table.{lastNode, mostArcMetres, mostReach};
 ghost use Rattle.problem.specs.Exposures.{ofArc};
 ghost use Rattle.problem.specs.Routes.{arcAt};
-ghost use Rattle.net.specs.Net.{nextFrom, firstFrom, lowerFrom, doorCountAt, wordAt, arcsIn, meshIn, doorIn, Net};
+ghost use Rattle.net.specs.Net.{nextFrom, firstFrom, lowerFrom, doorCountAt, spannedAt, wordAt, arcsIn, meshIn, doorArc, Net};
 
 // Where the words of each kind begin: as many words as a table can have arcs for each field of an arc, as many as there are nodes for each
-// field of a node; then the number of arcs, the request, the number of doors, and the doors.
+// field of a node; then the number of arcs, the request, the number of doors, whether there are spans, and the doors.
 pub const METRES_FROM: u64 = problem::MOST_IN_TABLE as u64;
 
 const HEADS_FROM: u64 = METRES_FROM + METRES_FROM;
@@ -36,7 +36,9 @@ const SOURCE_AT: u64 = REACH_AT + 1;
 
 const DOOR_COUNT_AT: u64 = SOURCE_AT + 1;
 
-pub const DOORS_FROM: u64 = DOOR_COUNT_AT + 1;
+const SPANNED_AT: u64 = DOOR_COUNT_AT + 1;
+
+pub const DOORS_FROM: u64 = SPANNED_AT + 1;
 
 pub const SIZE: usize = DOORS_FROM as usize + problem::MOST_IN_TABLE;
 
@@ -60,15 +62,36 @@ fn word(net: &[u64], at: u64) -> u64
     net[i]
 }
 
-// What arc k is exposed to, and its metres and head.
+// The fields of what arc k is exposed to, and all of it; its metres and head.
+pub fn risks(net: &[u64], k: u64) -> u64
+    requires { ⌜ Net (now net) × (k < length (arcsIn (now net))) ⌝ }
+    ensures { λ r. ⌜ r ≡ ofArc (arcAt (arcsIn (now (net .entry))) k) .risks ⌝ }
+{
+    word(net, k)
+}
+
+pub fn low(net: &[u64], k: u64) -> u64
+    requires { ⌜ Net (now net) × (k < length (arcsIn (now net))) ⌝ }
+    ensures { λ r. ⌜ r ≡ ofArc (arcAt (arcsIn (now (net .entry))) k) .low ⌝ }
+{
+    word(net, LOW_FROM + k)
+}
+
+pub fn high(net: &[u64], k: u64) -> u64
+    requires { ⌜ Net (now net) × (k < length (arcsIn (now net))) ⌝ }
+    ensures { λ r. ⌜ r ≡ ofArc (arcAt (arcsIn (now (net .entry))) k) .high ⌝ }
+{
+    word(net, HIGH_FROM + k)
+}
+
 pub fn exposure(net: &[u64], k: u64) -> Exposure
     requires { ⌜ Net (now net) × (k < length (arcsIn (now net))) ⌝ }
     ensures { λ r. ⌜ r ≡ ofArc (arcAt (arcsIn (now (net .entry))) k) ⌝ }
 {
     Exposure {
-        risks: word(net, k),
-        low: word(net, LOW_FROM + k),
-        high: word(net, HIGH_FROM + k),
+        risks: risks(net, k),
+        low: low(net, k),
+        high: high(net, k),
     }
 }
 
@@ -137,7 +160,7 @@ pub fn source(net: &[u64]) -> u64
     word(net, SOURCE_AT)
 }
 
-// How many arcs lead into the terminal, the doors, and what each is exposed to.
+// How many arcs lead into the terminal: the doors.
 pub fn door_count(net: &[u64]) -> u64
     requires { ⌜ Net (now net) ⌝ }
     ensures { λ r. ⌜ r ≡ wordAt (now (net .entry)) doorCountAt ⌝ }
@@ -145,9 +168,18 @@ pub fn door_count(net: &[u64]) -> u64
     word(net, DOOR_COUNT_AT)
 }
 
-pub fn door_exposure(net: &[u64], j: u64) -> Exposure
+// The number of door j.
+pub fn door(net: &[u64], j: u64) -> u64
     requires { ⌜ Net (now net) × (j < wordAt (now net) doorCountAt) ⌝ }
-    ensures { λ r. ⌜ r ≡ doorIn (now (net .entry)) j ⌝ }
+    ensures { λ r. ⌜ (r ≡ doorArc (now (net .entry)) j) × (r < length (arcsIn (now (net .entry)))) ⌝ }
 {
-    exposure(net, word(net, DOORS_FROM + j))
+    word(net, DOORS_FROM + j)
+}
+
+// Whether some arc has a span: 0 where none has.
+pub fn spanned(net: &[u64]) -> u64
+    requires { ⌜ Net (now net) ⌝ }
+    ensures { λ r. ⌜ r ≡ wordAt (now (net .entry)) spannedAt ⌝ }
+{
+    word(net, SPANNED_AT)
 }

@@ -115,8 +115,8 @@ fn go_on(t: Tally, cur: u64, width: u64) -> Turn
 
 // One window, and what it says of how to go on.
 fn try_window(
-    net: &[u64],
-    store: &mut [u64],
+    net: &[u64; net::SIZE],
+    store: &mut [u64; cores::OWN_WORDS],
     allowance: u64,
     floor: u64,
     t: Tally,
@@ -149,7 +149,12 @@ fn try_window(
 }
 
 // Windows one after the other, from the shortest length on.
-pub fn plan(net: &[u64], store: &mut [u64], allowance: u64, floor: u64) -> Run
+pub fn plan(
+    net: &[u64; net::SIZE],
+    store: &mut [u64; cores::OWN_WORDS],
+    allowance: u64,
+    floor: u64,
+) -> Run
     requires { ⌜ Net (now net) × Planning (now net) allowance floor × Stored (now net) (now store) ⌝ }
     ensures ended { λ r. ⌜ Ended (now (net .entry)) allowance r ⌝ }
     ensures stored { λ _. ⌜ Stored (now (net .entry)) (now (store .exit)) ⌝ }

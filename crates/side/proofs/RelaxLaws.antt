@@ -1,7 +1,7 @@
 -- One arc relaxed: when it gains; then lengths stay small, entries stay those of free ways, and the cost falls. Assumes nothing.
 use mathlib.Core.Path.{_≡_, refl, sym, ap, _∙_}
 use mathlib.Core.Logic.{_⊎_, inl, inr, ⊎-elim}
-use mathlib.Core.Bool.{Bool, true, false, _&&_, _||_, not, false≢true}
+use mathlib.Core.Bool.{Bool, true, false, _&&_, _||_, not, false≢true, and-false, and-true}
 use mathlib.Core.List.{List, _∷_}
 use Prim.Native.Nat.{ℕ, suc, _+_, _*_, _-_, _≤_, _<_}
 use native.Mathlib.Decide.{ℕ-discrete}
@@ -106,13 +106,13 @@ module _ (banned : Exposure) (s : Side) (a : Arc) where
 
 -- what the code of `gains` returns
 module _ (banned : Exposure) (a : Arc) (tail head : Distance) where
-  pub gains-banned : disjoint (ofArc a) banned ≡ false → false ≡ gainsBy banned a tail head
+  pub gains-far : isNearer tail head (a .metres) ≡ false → false ≡ gainsBy banned a tail head
   unfolding gainsBy
-  gains-banned n = rw n
+  gains-far n = sym (rw n (and-false (disjoint (ofArc a) banned)))
 
-  pub gains-free : disjoint (ofArc a) banned ≡ true → isNearer tail head (a .metres) ≡ gainsBy banned a tail head
+  pub gains-nearer : isNearer tail head (a .metres) ≡ true → disjoint (ofArc a) banned ≡ gainsBy banned a tail head
   unfolding gainsBy
-  gains-free f = rw f
+  gains-nearer n = sym (rw n (and-true (disjoint (ofArc a) banned)))
 
 -- ---- the table that an arc leaves
 

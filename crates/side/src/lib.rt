@@ -76,16 +76,16 @@ fn relax_in(
     lent
 }
 
-// Whether the arc is free and brings its tail nearer.
+// Whether the arc brings its tail nearer and is free. Most arcs are not nearer, so that is asked first.
 fn gains(a: Arc, banned: Exposure, tail: Distance, head: Distance) -> bool
     requires { ⌜ head .metres + a .metres < 2 ^ 32 ⌝ }
     ensures { λ o. ⌜ o ≡ gainsBy banned a tail head ⌝ }
 {
-    let own = exposure::of_arc(a);
-    if !exposure::is_disjoint(own, banned) {
+    if !is_nearer(tail, head, a.metres) {
         return false;
     }
-    is_nearer(tail, head, a.metres)
+    let own = exposure::of_arc(a);
+    exposure::is_disjoint(own, banned)
 }
 
 // Arc number k of a sound table.

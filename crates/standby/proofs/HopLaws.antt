@@ -10,6 +10,7 @@ use Rattle.laws.specs.Sets.{bit}
 use Rattle.laws.proofs.SetLaws.{bit-le-one}
 use Rattle.problem.specs.declared.Arc.{Arc}
 use Rattle.problem.specs.declared.Exposure.{Exposure}
+use Rattle.problem.specs.Exposures.{ofArc, joined, sharing}
 use Rattle.problem.specs.Routes.{Mesh}
 use Rattle.net.specs.declared.Behind.{Behind}
 use Rattle.net.specs.Search.{onto}
@@ -20,22 +21,27 @@ use Rattle.standby.specs.Standby.{keyOver, hopOf}
 abbrev tag : Hop → ℕ
 tag Passed = 0
 tag (Ends k) = 1
-tag (Leads h e) = 2
+tag (Leads h e n) = 2
 
 abbrev keyIn : Hop → ℕ
 keyIn Passed = 0
 keyIn (Ends k) = k
-keyIn (Leads h e) = 0
+keyIn (Leads h e n) = 0
 
 abbrev headIn : Hop → ℕ
 headIn Passed = 0
 headIn (Ends k) = 0
-headIn (Leads h e) = h
+headIn (Leads h e n) = h
 
 abbrev behindIn : Behind → Hop → Behind
 behindIn b Passed = b
 behindIn b (Ends k) = b
-behindIn b (Leads h e) = e
+behindIn b (Leads h e n) = e
+
+abbrev sharedIn : Hop → ℕ
+sharedIn Passed = 0
+sharedIn (Ends k) = 0
+sharedIn (Leads h e n) = n
 
 module _ (m : Mesh) (lower : ℕ) (main : Exposure) (door least : ℕ) (b : Behind) (a : Arc) where
   abbrev to : ℕ
@@ -43,6 +49,9 @@ module _ (m : Mesh) (lower : ℕ) (main : Exposure) (door least : ℕ) (b : Behi
 
   abbrev key : ℕ
   key = keyOver lower main door b a
+
+  abbrev shared : ℕ
+  shared = sharing main (joined (b .exposure) (ofArc a))
 
   abbrev hop : Hop
   hop = hopOf m lower main door least b a
@@ -80,7 +89,7 @@ module _ (m : Mesh) (lower : ℕ) (main : Exposure) (door least : ℕ) (b : Behi
   unfolding hopOf
   hop-ends o t = rw (not-met (o .new), le-ltb (m .reach) to (o .in-reach), lt-leb least key (o .better), eq-eqb _ _ t)
 
-  pub hop-leads : Opens → (a .head ≡ m .terminal → ⊥) → hop ≡ Leads (a .head) (onto b a)
+  pub hop-leads : Opens → (a .head ≡ m .terminal → ⊥) → hop ≡ Leads (a .head) (onto b a) shared
   unfolding hopOf
   hop-leads o t = rw (not-met (o .new), le-ltb (m .reach) to (o .in-reach), lt-leb least key (o .better), ne-eqb _ _ t)
 
@@ -89,7 +98,7 @@ module _ (m : Mesh) (lower : ℕ) (main : Exposure) (door least : ℕ) (b : Behi
   data Looked : Hop → Type 0 where
     passed : Skips → Looked Passed
     ends : Opens → a .head ≡ m .terminal → Looked (Ends key)
-    leads : Opens → (a .head ≡ m .terminal → ⊥) → Looked (Leads (a .head) (onto b a))
+    leads : Opens → (a .head ≡ m .terminal → ⊥) → Looked (Leads (a .head) (onto b a) shared)
 
   looked : Looked hop
   unfolding hopOf
@@ -103,7 +112,7 @@ module _ (m : Mesh) (lower : ℕ) (main : Exposure) (door least : ℕ) (b : Behi
       }
 
       go : (w : Bool) → eqb (bit (b .met) (a .head)) 1 ≡ w → (x : Bool) → ltb (m .reach) to ≡ x → (y : Bool) → leb least key ≡ y → (z : Bool) → eqb (a .head) (m .terminal) ≡ z
-          → Looked (if w then Passed else (if x then Passed else (if y then Passed else (if z then Ends key else Leads (a .head) (onto b a)))))
+          → Looked (if w then Passed else (if x then Passed else (if y then Passed else (if z then Ends key else Leads (a .head) (onto b a) shared))))
       go true e x f y g z h = passed (met-before (eqb-true _ 1 e))
       go false e true f y g z h = passed (too-far (ltb-true (m .reach) to f))
       go false e false f true g z h = passed (no-better (leb-true least key g))
@@ -131,16 +140,17 @@ module _ (m : Mesh) (lower : ℕ) (main : Exposure) (door least : ℕ) (b : Behi
       go (Looked.ends o g) t q = record { is = sym q; opens = o; at-terminal = g }
       go (Looked.leads o g) t q = absurd (omega arith)
 
-  pub record Leading (h : ℕ) (e : Behind) : Type 0 where
+  pub record Leading (h : ℕ) (e : Behind) (n : ℕ) : Type 0 where
     pub head-is : h ≡ a .head
     pub is : e ≡ onto b a
+    pub shared-is : n ≡ shared
     pub opens : Opens
     pub goes-on : a .head ≡ m .terminal → ⊥
 
-  pub leads-is : {h : ℕ} {e : Behind} → hop ≡ Leads h e → Leading h e
-  leads-is {h} {e} q = go looked (ap tag q) (ap headIn q) (ap (behindIn b) q)
+  pub leads-is : {h : ℕ} {e : Behind} {n : ℕ} → hop ≡ Leads h e n → Leading h e n
+  leads-is {h} {e} {n} q = go looked (ap tag q) (ap headIn q) (ap (behindIn b) q) (ap sharedIn q)
     where
-      go : {l : Hop} → Looked l → tag l ≡ 2 → headIn l ≡ h → behindIn b l ≡ e → Leading h e
-      go (Looked.passed s) t p q = absurd (omega arith)
-      go (Looked.ends o g) t p q = absurd (omega arith)
-      go (Looked.leads o g) t p q = record { head-is = sym p; is = sym q; opens = o; goes-on = g }
+      go : {l : Hop} → Looked l → tag l ≡ 2 → headIn l ≡ h → behindIn b l ≡ e → sharedIn l ≡ n → Leading h e n
+      go (Looked.passed s) t p q r = absurd (omega arith)
+      go (Looked.ends o g) t p q r = absurd (omega arith)
+      go (Looked.leads o g) t p q r = record { head-is = sym p; is = sym q; shared-is = sym r; opens = o; goes-on = g }

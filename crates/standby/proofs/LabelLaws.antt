@@ -15,7 +15,7 @@ use Rattle.problem.specs.Table.{lastNode}
 use Rattle.problem.specs.Exposures.{common}
 use Rattle.problem.proofs.ExposureLaws.{Inside, exposed-common}
 use Rattle.exposure.specs.Words.{exposureWords, putAt}
-use Rattle.exposure.proofs.WordLaws.{inside-at, put-same, put-before, put-behind, exposure-same}
+use Rattle.exposure.proofs.WordLaws.{inside-at, put-length, put-same, put-before, put-behind, exposure-same}
 use Rattle.net.specs.declared.Behind.{Behind}
 use Rattle.net.specs.Net.{wordAt}
 use Rattle.standby.specs.Ahead.{Quest, Ahead}
@@ -70,7 +70,7 @@ module _ (store : List ℕ) (v metres work : ℕ) (e : Exposure) (long : labelWo
     exposure-is = put-same measured (exposuresFrom + v * exposureWords) e (omega (arith, size-measured));
     other-metres = λ u h ne. elsewhere (metresFrom + u) (omega arith) (λ z. ne (omega arith)) (inl (omega arith));
     other-exposure = λ u h ne. exposure-same put store (exposuresFrom + u * exposureWords) (λ k a b. elsewhere k (omega arith) (λ z. absurd (omega arith)) (apart u k ne a b));
-    frame = record { same = λ k h. elsewhere k (omega arith) (λ z. absurd (omega arith)) (inr (omega arith)) };
+    frame = record { size = put-length measured (exposuresFrom + v * exposureWords) e ∙ size-measured; same = λ k h. elsewhere k (omega arith) (λ z. absurd (omega arith)) (inr (omega arith)) };
   }
     where
       apart : (u k : ℕ) → (u ≡ v → ⊥) → exposuresFrom + u * exposureWords ≤ k → k < exposuresFrom + u * exposureWords + exposureWords

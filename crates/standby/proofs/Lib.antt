@@ -1,3 +1,4 @@
+pub mod SharedLaws
 pub mod DoorLaws
 pub mod HopLaws
 pub mod OfferLaws

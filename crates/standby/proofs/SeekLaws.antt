@@ -2,8 +2,10 @@
 use mathlib.Core.Path.{_≡_, refl, sym, ap, ap₂, _∙_, subst}
 use mathlib.Core.List.{List}
 use Prim.Native.Nat.{ℕ, suc, _+_, _≤_, _<_}
+use native.Mathlib.Nat.{zero-add}
 use native.Mathlib.Decide.{ℕ-discrete, decLt}
 use native.Mathlib.Omega.{arith}
+use lib.Bits.{bitOr, or-zero-r}
 use lib.ListN.{length}
 use Rattle.laws.specs.Sets.{bit, with, unmet}
 use Rattle.laws.proofs.SetLaws.{bit-with, bit-with-other}
@@ -12,18 +14,19 @@ use Rattle.problem.specs.declared.Exposure.{Exposure}
 use Rattle.problem.specs.Table.{lastNode}
 use Rattle.problem.specs.Exposures.{toNothing, ofArc, joined, common, sharing}
 use Rattle.problem.specs.Routes.{Mesh, arcAt, metresOf, Way}
-use Rattle.problem.proofs.ExposureLaws.{Inside, exposed-common, exposed-joined}
+use Rattle.problem.proofs.ExposureLaws.{Inside, exposed-common, exposed-joined, nothing-joined}
 use Rattle.problem.proofs.GrowthLaws.{leftFrom}
+use Rattle.exposure.proofs.WordLaws.{joined-by-field}
 use Rattle.keys.specs.Keys.{standbyKey}
 use Rattle.net.specs.declared.Behind.{Behind}
 use Rattle.net.specs.Net.{nextFrom, firstFrom, lowerFrom, wordAt, arcsIn, meshIn, Net}
 use Rattle.net.specs.Search.{behind, onto, onward, searched}
 use Rattle.net.proofs.SearchLaws.{Left, listFrom, over, Place, place-first, place-next, next-past, next-arc, head-node, fewer, left-first, left-last, left-met, left-idle, left-there, left-onward}
 use Rattle.standby.specs.declared.Hop.the-variants.{Passed, Ends, Leads}
-use Rattle.standby.specs.Standby.{offered, keyOver, hopAt, Seeking}
+use Rattle.standby.specs.Standby.{offered, EveryDoor, keyOver, hopAt, Seeking}
 use Rattle.standby.specs.Ahead.{Quest, quest, Ahead, NoneBelow, leastOf}
 use Rattle.standby.specs.Labels.{Labels, Known, Frame, Cleared, Labelled, Back, Sought}
-use Rattle.standby.proofs.DoorLaws.{shared-ahead, shared-door}
+use Rattle.standby.proofs.DoorLaws.{way-door, shared-ahead, shared-door}
 use Rattle.standby.proofs.HopLaws.{Skips, passed-is, Ending, ends-is, Leading, leads-is}
 use Rattle.standby.proofs.OfferLaws.{offer-far, offer-no-better, offer-ends}
 use Rattle.standby.proofs.AheadLaws.{ahead-fewer, ahead-more, ahead-far, ahead-no-better, ahead-step, fold-less, fold-mono, above-all}
@@ -32,6 +35,14 @@ use Rattle.standby.proofs.LabelLaws.{labels-none, labels-known, labels-
 -- what was passed on lies inside what has one more arc behind it
 part-onto : (main e a : Exposure) → Inside (common main e) (joined e a)
 part-onto main e a r = simp (exposed-common, exposed-joined) (omega arith)
+
+-- over an arc without spans, the spans behind are as they were
+pub same-spans : (on before own : Exposure) → on ≡ joined before own → own .low ≡ 0 → own .high ≡ 0 → on ≡ record { risks = on .risks; low = before .low; high = before .high }
+same-spans on before own e low high =
+    let fields = e ∙ joined-by-field before own in
+    let l : on .low ≡ before .low = ap (λ (x : Exposure). x .low) fields ∙ (ap (bitOr (before .low)) low ∙ or-zero-r (before .low)) in
+    let h : on .high ≡ before .high = ap (λ (x : Exposure). x .high) fields ∙ (ap (bitOr (before .high)) high ∙ or-zero-r (before .high)) in
+    λ i. record { risks = on .risks; low = l i; high = h i }
 
 module _ (net : List ℕ) (main : Exposure) (b : Behind) (at : ℕ) where
   abbrev m : Mesh
@@ -68,7 +79,7 @@ module _ (net : List ℕ) (main : Exposure) (b : Behind) (at : ℕ) where
   going-start r bound store =
       record {
         place = place-first net (offered m main) b at (r .words) (r .node);
-        frame = record { same = λ k h. refl };
+        frame = record { size = refl; same = λ k h. refl };
         no-more = omega arith;
         real = omega (arith, left-first net (offered m main) b at (r .words) bound (r .node) (r .onward));
         done = λ banned n x h f l. (λ k c t. absurd (r .words .first at (r .node) .skipped k (omega arith) c t), l);
@@ -113,7 +124,7 @@ module _ (net : List ℕ) (main : Exposure) (b : Behind) (at : ℕ) where
         → Going bound before after x next
     turn x after o h r f = record {
       place = place-next net (offered m main) b at words (g .place) l;
-      frame = record { same = λ k z. o .same k z ∙ g .frame .same k z };
+      frame = record { size = o .size ∙ g .frame .size; same = λ k z. o .same k z ∙ g .frame .same k z };
       no-more = omega (arith, g .no-more);
       real = omega (arith, g .real);
       done = λ banned n y p a s.
@@ -134,7 +145,7 @@ module _ (net : List ℕ) (main : Exposure) (b : Behind) (at : ℕ) where
         ]
 
     same-store : Frame store store
-    same-store = record { same = λ k z. refl }
+    same-store = record { size = refl; same = λ k z. refl }
 
     -- what is left where what grows from the head finds x at most
     left-below : (x : ℕ) → bit (b .met) (arcAt arcs i .head) ≡ 0 → searched m (offered m main) (onto b (arcAt arcs i)) (arcAt arcs i .head) least ≤ x → left i least ≤ left next x
@@ -174,14 +185,16 @@ module _ (net : List ℕ) (main : Exposure) (b : Behind) (at : ℕ) where
             turn k store same-store (omega (arith, o .opens .better, o .is)) (omega (arith, same)) (λ banned n x h a s. (no-better-over banned n x (omega (arith, o .is)), s))
 
     -- what the label of the arc's head needs and gives, and the call on it
-    pub record Onto (h : ℕ) (e : Behind) : Type 0 where
+    pub record Onto (h : ℕ) (e : Behind) (n : ℕ) : Type 0 where
+      pub is : e ≡ onto b (arcAt arcs i)
+      pub shared-is : n ≡ sharing main (e .exposure)
       pub seeking : Seeking net main door h (e .metres)
       pub fewer-nodes : unmet 32 (b .met) ≡ suc (unmet 32 (e .met))
       pub by-label : Known store h (e .metres) (e .exposure) → Going bound before store least (wordAt net (nextFrom + i))
       pub gives : (x : ℕ) (after : List ℕ) → Sought net main h e least store after x → Going bound before after x (wordAt net (nextFrom + i))
 
-    pub going-leads : {h : ℕ} {e : Behind} → hopAt net main door least b i ≡ Leads h e → Onto h e
-    going-leads {h} {e} q = go (leads-is m lower main door least b (arcAt arcs i) q)
+    pub going-leads : {h : ℕ} {e : Behind} {n : ℕ} → hopAt net main door least b i ≡ Leads h e n → Onto h e n
+    going-leads {h} {e} {n} q = go (leads-is m lower main door least b (arcAt arcs i) q)
       where
         given : (x : ℕ) (after : List ℕ) → bit (b .met) (arcAt arcs i .head) ≡ 0 → Sought net main (arcAt arcs i .head) (onto b (arcAt arcs i)) least store after x → Going bound before after x next
         given x after new s =
@@ -200,8 +213,10 @@ module _ (net : List ℕ) (main : Exposure) (b : Behind) (at : ℕ) where
             turn least store same-store (omega arith) (left-below least new (fold-less (asked 0) (onto b (arcAt arcs i)) least (onward m (onto b (arcAt arcs i)) (arcAt arcs i .head))))
             (λ banned n x h a s. (λ c. labels-known (asked banned) store node s k, s))
 
-        go : Leading m lower main door least b (arcAt arcs i) h e → Onto h e
+        go : Leading m lower main door least b (arcAt arcs i) h e n → Onto h e n
         go o = record {
+          is = o .is;
+          shared-is = o .shared-is ∙ ap (λ (c : Behind). sharing main (c .exposure)) (sym (o .is));
           seeking = record {
             words = words;
             doors = hand .start .doors;
@@ -218,7 +233,7 @@ module _ (net : List ℕ) (main : Exposure) (b : Behind) (at : ℕ) where
   pub going-end : {door bound least i : ℕ} {before store after : List ℕ} → Seeking net main door at (b .metres) → Going bound before store least i → length arcs ≤ i
       → Labelled at (b .metres) (common main (b .exposure)) store after → Sought net main at b bound before after least
   going-end {door} {bound} {least} {i} {before} {store} {after} r g e keeps = record {
-    frame = record { same = λ k z. keeps .frame .same k z ∙ g .frame .same k z };
+    frame = record { size = keeps .frame .size ∙ g .frame .size; same = λ k z. keeps .frame .same k z ∙ g .frame .same k z };
     no-more = g .no-more;
     real = omega (arith, g .real, left-last net (offered m main) b at (r .words) i least e);
     all = λ banned n x h. knot (asked banned) (r .onward) (end banned x h) n;
@@ -232,6 +247,16 @@ module _ (net : List ℕ) (main : Exposure) (b : Behind) (at : ℕ) where
           (w, labels-kept (asked banned) (b .exposure) (d .1) (ahead-fewer (asked banned) w (omega arith)) keeps)
 
 -- ---- from the source
+
+-- nothing is below a bound that what every door shares, over the shortest way, is not below
+pub none-below-door : (net : List ℕ) (main : Exposure) {door : ℕ} (nodes : ℕ) {bound : ℕ} → Net net → EveryDoor (meshIn net) main door
+    → bound ≤ standbyKey door (wordAt net (lowerFrom + meshIn net .source)) → NoneBelow (quest (meshIn net) main nodes) bound
+none-below-door net main {door} nodes {bound} words doors h =
+    let lower : ℕ = wordAt net (lowerFrom + meshIn net .source) in
+    let from-none : bound ≤ standbyKey door (0 + lower) = omega (arith, h, ap (standbyKey door) (zero-add lower)) in record {
+      ahead = λ n. ahead-no-better (quest (meshIn net) main nodes) lower door (λ ks w. words .lower (meshIn net .source) (words .source-node) w)
+          (λ ks w. rw nothing-joined (way-door doors ks (words .ends-differ) w)) from-none;
+    }
 
 module _ (net : List ℕ) (main : Exposure) (nodes bound : ℕ) {at met key : ℕ} {e : Exposure} {start before after : List ℕ}
     (a : at ≡ meshIn net .source) (s : met ≡ with nodes at) (n : e ≡ toNothing) (c : Cleared start before) (f : Sought net main at (behind met 0 e) bound before after key) where
@@ -258,7 +283,7 @@ module _ (net : List ℕ) (main : Exposure) (nodes bound : ℕ) {at met key : �
   }
 
   pub sought-frame : Frame start after
-  sought-frame = record { same = λ k h. f .frame .same k h ∙ c .frame .same k h }
+  sought-frame = record { size = f .frame .size ∙ c .frame .size; same = λ k h. f .frame .same k h ∙ c .frame .same k h }
 
   pub sought-least : key ≡ leastOf (quest (meshIn net) main nodes) bound
   unfolding leastOf

@@ -56,6 +56,7 @@ pub record Shorter (store : List ℕ) (v metres : ℕ) (e : Exposure) : Type 0 w
 
 -- what lies behind the labels is as it was
 pub record Frame (before after : List ℕ) : Type 0 where
+  pub size : length after ≡ length before
   pub same : (k : ℕ) → labelWords ≤ k → wordAt after k ≡ wordAt before k
 
 -- no node has a label

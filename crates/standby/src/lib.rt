@@ -7,9 +7,11 @@ ghost use mathlib.Core.Bool.{true};
 ghost use Prim.Native.Nat.{_<_, _≤_};
 ghost use lib.ListN.{length};
 ghost use Rattle.problem.specs.Table.{lastNode, hazards, mostReach};
+ghost use Rattle.problem.specs.Exposures.{ofArc, sharing};
+ghost use Rattle.problem.specs.Routes.{arcAt};
 ghost use Rattle.net.specs.Net.{Net, arcsIn, meshIn, wordAt};
 ghost use Rattle.net.specs.Search.{behind};
-ghost use Rattle.standby.specs.Standby.{EveryDoor, hopAt, Seeking};
+ghost use Rattle.standby.specs.Standby.{EveryDoor, mainIn, doorOf, exposedTo, NewlyShared, hopAt, Seeking};
 ghost use Rattle.standby.specs.Ahead.{quest, NoneBelow, leastOf};
 ghost use Rattle.standby.specs.Labels.{workAt, labelWords, Known, Shorter, Frame, Cleared, Labelled, Sought};
 
@@ -22,13 +24,24 @@ enum Hop {
     Passed,
     // It ends a better standby, of this key.
     Ends(u64),
-    // A better standby may go on from its head, with this behind it.
-    Leads(u64, Behind),
+    // A better standby may go on from its head, with this behind it, of which the main shares so much.
+    Leads(u64, Behind, u64),
+}
+
+// How much the main shares with arc k. Where there are no spans, they are not gone into.
+fn shared_with(net: &[u64], main: Exposure, k: u64) -> u64
+    requires { ⌜ Net (now net) × (k < length (arcsIn (now net))) ⌝ }
+    ensures { λ r. ⌜ (r ≡ sharing main (ofArc (arcAt (arcsIn (now (net .entry))) k))) × (r ≤ hazards) ⌝ }
+{
+    if net::spanned(net) == 0 {
+        return exposure::shared_risks(main.risks, net::risks(net, k));
+    }
+    exposure::sharing(main, net::exposure(net, k))
 }
 
 // The fewest that the main shares with a door. The last arc of a standby is a door, so every standby shares at least as many: a search
 // that knows it need not walk up to the terminal to learn it.
-fn door(net: &[u64], main: Exposure) -> u64
+pub fn door(net: &[u64], main: Exposure) -> u64
     requires { ⌜ Net (now net) ⌝ }
     ensures { λ r. ⌜ EveryDoor (meshIn (now (net .entry))) main r ⌝ }
 {
@@ -36,7 +49,7 @@ fn door(net: &[u64], main: Exposure) -> u64
     let mut least = MOST_SHARED;
     let mut j = 0;
     while j < n {
-        let shared = exposure::sharing(main, net::door_exposure(net, j));
+        let shared = shared_with(net, main, net::door(net, j));
         if shared == 0 {
             return 0;
         }
@@ -46,19 +59,77 @@ fn door(net: &[u64], main: Exposure) -> u64
     least
 }
 
+// A main in words, so that one reference is handed on from call to call: what it is exposed to, and the fewest that it shares with a door.
+const MAIN_WORDS: usize = 4;
+
+const RISKS: usize = 0;
+
+const LOW: usize = 1;
+
+const HIGH: usize = 2;
+
+const DOOR: usize = 3;
+
+// The spans that lie behind a search, low and high: by reference, since they are handed on as they are where there are none.
+const SPAN_WORDS: usize = 2;
+
+// What the main is exposed to.
+fn main_exposure(main: &[u64; MAIN_WORDS]) -> Exposure
+    ensures { λ r. ⌜ r ≡ mainIn (now (main .entry)) ⌝ }
+{
+    Exposure {
+        risks: main[RISKS],
+        low: main[LOW],
+        high: main[HIGH],
+    }
+}
+
+// How many more the main shares once arc i lies behind the search too. Most arcs add few, so that only what is new is counted.
+fn newly_shared(
+    net: &[u64],
+    i: u64,
+    main: &[u64; MAIN_WORDS],
+    risks: u64,
+    spans: &[u64; SPAN_WORDS],
+) -> u64
+    requires { ⌜ Net (now net) × (i < length (arcsIn (now net))) ⌝ }
+    ensures { λ r. ⌜ NewlyShared (mainIn (now (main .entry))) (exposedTo risks (now (spans .entry))) (ofArc (arcAt (arcsIn (now (net .entry))) i)) r ⌝ }
+{
+    let new = exposure::newly(main[RISKS], risks, net::risks(net, i));
+    if net::spanned(net) == 0 {
+        return new;
+    }
+    let low = exposure::newly(main[LOW], spans[0], net::low(net, i));
+    let high = exposure::newly(main[HIGH], spans[1], net::high(net, i));
+    new + low + high
+}
+
+// What lies behind a search is exposed to this.
+fn exposed(risks: u64, spans: &[u64; SPAN_WORDS]) -> Exposure
+    ensures { λ r. ⌜ r ≡ exposedTo risks (now (spans .entry)) ⌝ }
+{
+    Exposure {
+        risks: risks,
+        low: spans[0],
+        high: spans[1],
+    }
+}
+
 // What arc i is to the search for a standby of a key below `least`.
 fn look(
     net: &[u64],
     i: u64,
+    main: &[u64; MAIN_WORDS],
     met: u64,
     metres: u64,
-    exposure: Exposure,
-    main: Exposure,
-    door: u64,
+    risks: u64,
+    spans: &[u64; SPAN_WORDS],
+    shared: u64,
     least: u64,
 ) -> Hop
-    requires { ⌜ Net (now net) × (i < length (arcsIn (now net))) × (metres ≤ mostReach) × (door ≤ hazards) ⌝ }
-    ensures { λ r. ⌜ r ≡ hopAt (now (net .entry)) main door least (behind met metres exposure) i ⌝ }
+    requires { ⌜ Net (now net) × (i < length (arcsIn (now net))) × (metres ≤ mostReach) × (doorOf (now main) ≤ hazards)
+        × (shared ≡ sharing (mainIn (now main)) (exposedTo risks (now spans))) ⌝ }
+    ensures { λ r. ⌜ r ≡ hopAt (now (net .entry)) (mainIn (now (main .entry))) (doorOf (now (main .entry))) least (behind met metres (exposedTo risks (now (spans .entry)))) i ⌝ }
 {
     let head = net::head(net, i);
     if sets::has(met, head as u8) {
@@ -69,21 +140,21 @@ fn look(
     if net::reach(net) < to {
         return Hop::Passed;
     }
-    let e = exposure::joined(exposure, net::exposure(net, i));
-    let shared = laws::larger(door, exposure::sharing(main, e));
-    let key = keys::standby_key(shared, to);
+    let more = shared + newly_shared(net, i, main, risks, spans);
+    let key = keys::standby_key(laws::larger(main[DOOR], more), to);
     if least <= key {
         return Hop::Passed;
     }
     if head == net::terminal(net) {
         return Hop::Ends(key);
     }
+    let e = exposure::joined(exposed(risks, spans), net::exposure(net, i));
     let on = Behind {
         met: sets::with(met, head as u8),
         metres: m,
         exposure: e,
     };
-    Hop::Leads(head, on)
+    Hop::Leads(head, on, more)
 }
 
 // Where the words of the labels begin: the set of nodes that have one, the nodes gone on from, then the metres and what they are exposed to, node by node.
@@ -96,6 +167,9 @@ const METRES_FROM: usize = 2;
 const EXPOSURES_FROM: usize = METRES_FROM + problem::NODES;
 
 pub const LABEL_WORDS: usize = EXPOSURES_FROM + problem::NODES * exposure::WORDS;
+
+// How many words a store has: the labels, and what its owner keeps behind them.
+pub const STORE_WORDS: usize = 256;
 
 // More work than this is not counted.
 const MOST_WORK: u64 = 4294967296;
@@ -158,18 +232,20 @@ pub fn keep(store: &mut [u64], v: u64, metres: u64, exposure: Exposure)
 
 // The least of `bound` and the keys of the standbys that go on from `at` with so much behind them, but for those that a label or a node behind makes needless.
 fn seek(
-    net: &[u64],
-    store: &mut [u64],
-    main: Exposure,
-    door: u64,
+    net: &[u64; net::SIZE],
+    store: &mut [u64; STORE_WORDS],
+    main: &[u64; MAIN_WORDS],
     at: u64,
     met: u64,
     metres: u64,
-    exposure: Exposure,
+    risks: u64,
+    spans: &[u64; SPAN_WORDS],
+    shared: u64,
     bound: u64,
 ) -> u64
-    requires { ⌜ Seeking (now net) main door at metres × (labelWords ≤ length (now store)) ⌝ }
-    ensures { λ r. ⌜ Sought (now (net .entry)) main at (behind met metres exposure) bound (now (store .entry)) (now (store .exit)) r ⌝ }
+    requires { ⌜ Seeking (now net) (mainIn (now main)) (doorOf (now main)) at metres × (labelWords ≤ length (now store))
+        × (shared ≡ sharing (mainIn (now main)) (exposedTo risks (now spans))) ⌝ }
+    ensures { λ r. ⌜ Sought (now (net .entry)) (mainIn (now (main .entry))) at (behind met metres (exposedTo risks (now (spans .entry)))) bound (now (store .entry)) (now (store .exit)) r ⌝ }
 {
     let n = net::arc_count(net);
     let mut least = bound;
@@ -177,35 +253,64 @@ fn seek(
     while i < n {
         let k = i;
         i = net::next(net, k);
-        match look(net, k, met, metres, exposure, main, door, least) {
+        match look(net, k, main, met, metres, risks, spans, shared, least) {
             Hop::Passed => {}
             Hop::Ends(key) => {
                 least = key;
             }
-            Hop::Leads(head, on) => {
+            Hop::Leads(head, on, more) => {
                 if !known(store, head, on.metres, on.exposure) {
-                    least = seek(
-                        net,
-                        store,
-                        main,
-                        door,
-                        head,
-                        on.met,
-                        on.metres,
-                        on.exposure,
-                        least,
-                    );
+                    if net::spanned(net) == 0 {
+                        least = seek(
+                            net,
+                            store,
+                            main,
+                            head,
+                            on.met,
+                            on.metres,
+                            on.exposure.risks,
+                            spans,
+                            more,
+                            least,
+                        );
+                    } else {
+                        let ahead = [on.exposure.low, on.exposure.high];
+                        least = seek(
+                            net,
+                            store,
+                            main,
+                            head,
+                            on.met,
+                            on.metres,
+                            on.exposure.risks,
+                            &ahead,
+                            more,
+                            least,
+                        );
+                    }
                 }
             }
         }
     }
-    keep(store, at, metres, exposure::common(main, exposure));
+    keep(
+        store,
+        at,
+        metres,
+        exposure::common(main_exposure(main), exposed(risks, spans)),
+    );
     least
 }
 
 // The least of `bound` and the keys of all standbys of a main that is exposed to this, that meet none of these nodes. What the store held does not matter.
-pub fn search(net: &[u64], store: &mut [u64], main: Exposure, nodes: u64, bound: u64) -> u64
-    requires { ⌜ Net (now net) × (labelWords ≤ length (now store)) ⌝ }
+pub fn search(
+    net: &[u64; net::SIZE],
+    store: &mut [u64; STORE_WORDS],
+    main: Exposure,
+    door: u64,
+    nodes: u64,
+    bound: u64,
+) -> u64
+    requires { ⌜ Net (now net) × (labelWords ≤ length (now store)) × EveryDoor (meshIn (now net)) main door ⌝ }
     ensures least { λ r. ⌜ r ≡ leastOf (quest (meshIn (now (net .entry))) main nodes) bound ⌝ }
     ensures below { λ r. ⌜ NoneBelow (quest (meshIn (now (net .entry))) main nodes) r ⌝ }
     ensures frame { λ _. ⌜ Frame (now (store .entry)) (now (store .exit)) ⌝ }
@@ -213,16 +318,7 @@ pub fn search(net: &[u64], store: &mut [u64], main: Exposure, nodes: u64, bound:
     clear(store);
     let source = net::source(net);
     let met = sets::with(nodes, source as u8);
-    let door = door(net, main);
-    seek(
-        net,
-        store,
-        main,
-        door,
-        source,
-        met,
-        0,
-        exposure::nothing(),
-        bound,
-    )
+    let words = [main.risks, main.low, main.high, door];
+    let none = [0; SPAN_WORDS];
+    seek(net, store, &words, source, met, 0, 0, &none, 0, bound)
 }

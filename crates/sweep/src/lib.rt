@@ -29,7 +29,13 @@ pub struct Swept {
 }
 
 // The tally after a route ended within the window's end, with `route` behind it.
-fn end_route(net: &[u64], store: &mut [u64], w: Window, route: Behind, t: Tally) -> Tally
+fn end_route(
+    net: &[u64; net::SIZE],
+    store: &mut [u64; cores::OWN_WORDS],
+    w: Window,
+    route: Behind,
+    t: Tally,
+) -> Tally
     requires { ⌜ Net (now net) × (route .metres ≤ mostReach) × Stored (now net) (now store) ⌝ }
     ensures ended { λ r. ⌜ r ≡ ended (meshIn (now (net .entry))) w route t ⌝ }
     ensures stored { λ _. ⌜ Stored (now (net .entry)) (now (store .exit)) ⌝ }
@@ -80,7 +86,12 @@ fn cut_at(run: &mut [u64; RUN_WORDS], to: u64)
 }
 
 // A route ended within the window's end, with `route` behind it.
-fn meet_route(net: &[u64], run: &mut [u64; RUN_WORDS], store: &mut [u64], route: Behind)
+fn meet_route(
+    net: &[u64; net::SIZE],
+    run: &mut [u64; RUN_WORDS],
+    store: &mut [u64; cores::OWN_WORDS],
+    route: Behind,
+)
     requires { ⌜ Net (now net) × (route .metres ≤ mostReach) × UnderWay (now run) × Stored (now net) (now store) ⌝ }
     ensures meets { λ _. ⌜ Meets (meshIn (now (net .entry))) route (now (run .entry)) (now (run .exit)) ⌝ }
     ensures stored { λ _. ⌜ Stored (now (net .entry)) (now (store .exit)) ⌝ }
@@ -103,25 +114,33 @@ fn meet_route(net: &[u64], run: &mut [u64; RUN_WORDS], store: &mut [u64], route:
     run[OVER] = flag(u.over);
 }
 
-// The sweep of what grows from `at`. Only a route's end passes the cap, so `over` is read after one and after a walk, and not at each arc.
+// The sweep of what grows from `at`. What lies behind it is exposed to these risks and spans, handed on one by one, which is quicker than a struct of three.
+// Only a route's end passes the cap, so `over` is read after one and after a walk, and not at each arc.
 fn walk(
-    net: &[u64],
+    net: &[u64; net::SIZE],
     run: &mut [u64; RUN_WORDS],
-    store: &mut [u64],
+    store: &mut [u64; cores::OWN_WORDS],
     at: u64,
     met: u64,
     metres: u64,
-    exposure: Exposure,
+    risks: u64,
+    low: u64,
+    high: u64,
 )
     requires { ⌜ Sweeping (now net) (wordAt (now run) hiAt) at metres × UnderWay (now run) × Stored (now net) (now store) ⌝ }
-    ensures walks { λ _. ⌜ Walks (now (net .entry)) at (behind met metres exposure) (now (run .entry)) (now (run .exit)) ⌝ }
+    ensures walks { λ _. ⌜ Walks (now (net .entry)) at (behind met metres (record { risks = risks; low = low; high = high })) (now (run .entry)) (now (run .exit)) ⌝ }
     ensures stored { λ _. ⌜ Stored (now (net .entry)) (now (store .exit)) ⌝ }
 {
     let mut i = net::first(net, at);
     while i < net::arc_count(net) {
         let k = i;
         i = net::next(net, k);
-        match look::look(net, k, met, metres, exposure, run[HI]) {
+        let e = Exposure {
+            risks: risks,
+            low: low,
+            high: high,
+        };
+        match look::look(net, k, met, metres, e, run[HI]) {
             Leg::Met => {}
             Leg::Past(to) => {
                 cut_at(run, to);
@@ -133,7 +152,17 @@ fn walk(
                 }
             }
             Leg::Leads(head, on) => {
-                walk(net, run, store, head, on.met, on.metres, on.exposure);
+                walk(
+                    net,
+                    run,
+                    store,
+                    head,
+                    on.met,
+                    on.metres,
+                    on.exposure.risks,
+                    on.exposure.low,
+                    on.exposure.high,
+                );
                 if 0 < run[OVER] {
                     return;
                 }
@@ -158,7 +187,12 @@ fn swept_in(run: [u64; RUN_WORDS]) -> Swept
 }
 
 // The tally after the routes of one window of lengths; past the cap nothing is walked.
-pub fn sweep(net: &[u64], store: &mut [u64], w: Window, t: Tally) -> Swept
+pub fn sweep(
+    net: &[u64; net::SIZE],
+    store: &mut [u64; cores::OWN_WORDS],
+    w: Window,
+    t: Tally,
+) -> Swept
     requires { ⌜ Net (now net) × (w .hi ≤ meshIn (now net) .reach) × Stored (now net) (now store) ⌝ }
     ensures swept { λ r. ⌜ SweptAll (meshIn (now (net .entry))) w t r ⌝ }
     ensures stored { λ _. ⌜ Stored (now (net .entry)) (now (store .exit)) ⌝ }
@@ -172,6 +206,6 @@ pub fn sweep(net: &[u64], store: &mut [u64], w: Window, t: Tally) -> Swept
     let source = net::source(net);
     let met = sets::with(0, source as u8);
     let mut run = [w.lo, w.hi, w.cap, t.ranked, t.last, t.best, 0, NO_LENGTH];
-    walk(net, &mut run, store, source, met, 0, exposure::nothing());
+    walk(net, &mut run, store, source, met, 0, 0, 0, 0);
     swept_in(run)
 }

@@ -2,7 +2,6 @@
 use Prim.Native.Nat.{_-_, _≤_}
 use native.Mathlib.Omega.{arith}
 use borrow.Author.Needs.{needs}
-use Rattle.aim.specs.Aim.{countWords}
 use Rattle.aim.proofs.pick.Statement.{statement}
 use Rattle.aim.proofs.pick.Tie as tie
 
@@ -10,7 +9,7 @@ abbrev Inv-loop : tie.InvT-loop
 Inv-loop counts s step left₀ from₀ at₀ left from at = (s .from ≤ from) × (from ≤ s .to) × (left ≤ s .left)
 
 abbrev μ-loop : tie.MeasureT-loop
-μ-loop counts s step left₀ from₀ at₀ left from at = countWords - at
+μ-loop counts s step left₀ from₀ at₀ left from at = 1027 - at
 
 loop-again : tie.Need-loop-again Inv-loop μ-loop
 loop-again c = let e = c .smaller .ensures in (omega arith, omega arith, omega arith)

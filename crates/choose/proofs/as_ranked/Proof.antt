@@ -9,13 +9,13 @@ use Rattle.choose.proofs.as_ranked.Tie as tie
 
 pair-by-requires : tie.Need-pair-by-requires
 pair-by-requires c κs =
-    let s = c .before .before .before in
+    let s = c .before in
     (s .pre .0, step-readable (meshIn (s .args .net .now)) (s .pre .0 .reach-range) (s .pre .2 .of-step), s .pre .3)
 
 returns : tie.Need-returns
 returns c =
-    let k = c .before .before .before .before .before in
-    let s = k .before .before .before .before in
+    let k = c .before .before .before in
+    let s = k .before .before in
     let r = s .pre .2 in
     let p = k .pair-by .ensures .0 in
     record {
@@ -31,6 +31,5 @@ as-ranked-spec =
     tie.close
     (tie.spec
     pair-by-requires
-    (λ c. search needs)
     (λ c. search needs)
     returns)

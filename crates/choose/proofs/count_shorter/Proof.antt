@@ -10,13 +10,13 @@ use Rattle.choose.proofs.count_shorter.Tie as tie
 
 returns : tie.Need-returns
 returns c =
-    let a = c .before .before .before .args in
+    let a = c .before .args in
     sym (count-none (routesIn (a .net .now))) ∙ ap (λ (x : ℕ). count (shorter x) (routesIn (a .net .now))) (sym (c .if1 .taken))
 
 returns-2 : tie.Need-returns-2
 returns-2 c =
-    let k = c .before .before .before in
-    let s = k .before .before .before .before .before in
+    let k = c .before in
+    let s = k .before .before .before in
     let a = s .args in
     swept-shorter (meshIn (a .net .now)) (a .metres) (a .cap) (k .before .before .if1 .left) (s .pre .0 .1) (s .pre .0 .2) _ (k .sweep .result .tally) refl refl (k .sweep .ensures .0 .tally-is)
 
@@ -27,5 +27,4 @@ count-shorter-spec =
     returns
     (λ c. search needs)
     (λ c κs. search needs)
-    (λ c. search needs)
     returns-2)

@@ -10,22 +10,22 @@ use Rattle.choose.proofs.pair_by.Tie as tie
 first-route-requires : tie.Need-first-route-requires
 first-route-requires c κs =
     let k = c .before .before in
-    let s = k .before .before .before in
+    let s = k .before in
     (s .pre .0, s .pre .2, main-in-range (k .read-off .result) (k .read-off .ensures) (s .pre .1) (c .nothing .result))
 
 first-route-requires-2 : tie.Need-first-route-requires-2
 first-route-requires-2 c κs =
-    let f = c .before .before .before .before .before in
+    let f = c .before .before .before in
     let k = f .before .before .before in
-    let s = k .before .before .before in
+    let s = k .before in
     (s .pre .0, f .first-route .ensures .1 .1, standby-in-range (k .read-off .result) (k .read-off .ensures) (s .pre .1) (f .first-route .result .track .exposure))
 
 returns : tie.Need-returns
 returns c =
-    let g = c .before .before .before in
-    let f = g .before .before .before .before .before .before in
+    let g = c .before in
+    let f = g .before .before .before .before in
     let k = f .before .before .before in
-    let s = k .before .before .before in (
+    let s = k .before in (
       record {
         main-fit = f .first-route .ensures .0;
         standby-fit = g .first-route2 .ensures .0;
@@ -45,5 +45,4 @@ pair-by-spec =
     (λ c κs. search needs)
     first-route-requires
     first-route-requires-2
-    (λ c. search needs)
     returns)

@@ -9,15 +9,15 @@ use Rattle.choose.proofs.settled.Tie as tie
 
 pair-by-requires : tie.Need-pair-by-requires
 pair-by-requires c κs =
-    let s = c .before .before .before in
+    let s = c .before in
     let a = s .args in
     let l = at-length (a .net .now) (s .pre .0) (a .allowance) (s .pre .1) (s .pre .2) in
     (s .pre .0, step-readable (meshIn (a .net .now)) (s .pre .0 .reach-range) (of-step (a .net .now) (s .pre .0) (a .allowance) (s .pre .1) (l .at-step)), s .pre .3)
 
 settled-step-requires : tie.Need-settled-step-requires
 settled-step-requires c κs =
-    let k = c .before .before .before .before .before .before .before .before in
-    let s = k .before .before .before .before in
+    let k = c .before .before .before .before .before .before in
+    let s = k .before .before in
     let a = s .args in
     let l = at-length (a .net .now) (s .pre .0) (a .allowance) (s .pre .1) (s .pre .2) in
     let o = of-step (a .net .now) (s .pre .0) (a .allowance) (s .pre .1) (l .at-step) in (
@@ -26,24 +26,24 @@ settled-step-requires c κs =
       k .pair-by .ensures .1,
     )
 
-cast-t16 : tie.Need-cast-t16
-cast-t16 c =
-    let k = c .before .before .before .before .before .before .before .before .before .before .before in
-    let s = k .before .before .before .before in
+cast-t14 : tie.Need-cast-t14
+cast-t14 c =
+    let k = c .before .before .before .before .before .before .before in
+    let s = k .before .before in
     let a = s .args in
     let l = at-length (a .net .now) (s .pre .0) (a .allowance) (s .pre .1) (s .pre .2) in
     let o = of-step (a .net .now) (s .pre .0) (a .allowance) (s .pre .1) (l .at-step) in
-    omega (arith, step-small (a .net .now) (s .pre .0) (a .allowance) (s .pre .1) (l .at-step) (l .met) (k .pair-by .result) (k .pair-by .ensures .0 .best-of o) (c .before .before .settled-step .ensures))
+    omega (arith, step-small (a .net .now) (s .pre .0) (a .allowance) (s .pre .1) (l .at-step) (l .met) (k .pair-by .result) (k .pair-by .ensures .0 .best-of o) (c .settled-step .ensures))
 
 returns : tie.Need-returns
 returns c =
-    let k = c .before .before .before .before .before .before .before .before .before .before .before in
-    let s = k .before .before .before .before in
+    let k = c .before .before .before .before .before .before .before in
+    let s = k .before .before in
     let a = s .args in
     let l = at-length (a .net .now) (s .pre .0) (a .allowance) (s .pre .1) (s .pre .2) in
     let o = of-step (a .net .now) (s .pre .0) (a .allowance) (s .pre .1) (l .at-step) in
     let p = k .pair-by .ensures .0 in
-    chosen-settled (a .net .now) (s .pre .0) (a .allowance) (s .pre .1) (l .at-step) (l .met) (k .pair-by .result) (p .best-of o) (c .before .before .settled-step .ensures) (p .main-fit) (p .standby-fit)
+    chosen-settled (a .net .now) (s .pre .0) (a .allowance) (s .pre .1) (l .at-step) (l .met) (k .pair-by .result) (p .best-of o) (c .settled-step .ensures) (p .main-fit) (p .standby-fit)
 
 pub settled-spec : {M : Type 1} → statement M
 settled-spec =
@@ -55,6 +55,5 @@ settled-spec =
     (λ c. search needs)
     (λ c. search needs)
     settled-step-requires
-    cast-t16
-    (λ c. search needs)
+    cast-t14
     returns)

@@ -8,11 +8,11 @@ use Rattle.choose.proofs.settled_step.Tie as tie
 
 returns : tie.Need-returns
 unfolding stepBy
-returns c = rw (eq-eqb _ _ (c .if1 .taken), stepBy) (omega (arith, c .before .before .before .count-shorter .ensures))
+returns c = rw (eq-eqb _ _ (c .if1 .taken), stepBy) (omega (arith, c .before .count-shorter .ensures))
 
 returns-2 : tie.Need-returns-2
 unfolding stepBy
-returns-2 c = rw (ne-eqb _ _ (c .if1 .left), stepBy) (omega (arith, c .before .before .before .count-shorter .ensures))
+returns-2 c = rw (ne-eqb _ _ (c .if1 .left), stepBy) (omega (arith, c .before .count-shorter .ensures))
 
 pub settled-step-spec : {M : Type 1} → statement M
 settled-step-spec =
@@ -22,8 +22,6 @@ settled-step-spec =
     (λ c κs. search needs)
     (λ c. search needs)
     (λ c. search needs)
-    (λ c. search needs)
     returns
-    (λ c. search needs)
     (λ c. search needs)
     returns-2)

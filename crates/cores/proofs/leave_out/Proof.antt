@@ -6,15 +6,15 @@ use Rattle.cores.proofs.leave_out.Tie as tie
 
 returns-2 : tie.Need-returns-2
 returns-2 c =
-    let k = c .before .before .before in
-    let s = k .before .before .before .before in
-    (s .before .before .before .before .before .before .before .pre .3, kept-then (frame-kept (s .search .kept .1 .0) (s .search .ensures .1 .1)) (k .spend .ensures))
+    let k = c .before in
+    let s = k .before .before in
+    (s .before .before .before .before .before .before .before .pre .3, kept-then (frame-kept (s .search .ensures .1 .1)) (k .spend .ensures))
 
 returns-3 : tie.Need-returns-3
 returns-3 c =
-    let k = c .before .before .before in
-    let s = k .before .before .before .before in
-    (below-smaller _ _ _ (c .if2 .left) (s .search .ensures .1 .0), kept-then (frame-kept (s .search .kept .1 .0) (s .search .ensures .1 .1)) (k .spend .ensures))
+    let k = c .before in
+    let s = k .before .before in
+    (below-smaller _ _ _ (c .if2 .left) (s .search .ensures .1 .0), kept-then (frame-kept (s .search .ensures .1 .1)) (k .spend .ensures))
 
 pub leave-out-spec : {M : Type 1} → statement M
 leave-out-spec =
@@ -25,7 +25,6 @@ leave-out-spec =
     (λ c κs. search needs)
     (λ c κs. search needs)
     (λ c κs. search needs)
-    (λ c. search needs)
+    (λ c κs. search needs)
     returns-2
-    (λ c. search needs)
     returns-3)

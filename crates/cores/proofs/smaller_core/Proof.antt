@@ -16,30 +16,19 @@ abbrev μ-loop : tie.MeasureT-loop
 μ-loop net store₀ nodes bound core₀ r₀ store core r = hazards - r
 
 loop-holds : tie.Need-loop-holds Inv-loop μ-loop
-loop-holds c = (omega arith, c .before .before .pre .2, kept-same _)
+loop-holds c = (omega arith, c .pre .2, kept-same _)
 
 leave-out-requires : tie.Need-leave-out-requires Inv-loop μ-loop
 leave-out-requires c κs =
     let l = c .before .before in
-    let s = l .before .before .before in
+    let s = l .before in
     (s .pre .0, omega (arith, s .pre .1, l .loop .inv .2 .size-same), omega (arith, c .before .loop-test .taken), l .loop .inv .1)
-
-add-r : tie.Need-add-r Inv-loop μ-loop
-add-r c = omega (arith, c .before .before .before .before .loop-test .taken)
-
-loop-less : tie.Need-loop-less Inv-loop μ-loop
-loop-less c = omega (arith, c .before .before .before .before .loop-test .taken)
 
 loop-again : tie.Need-loop-again Inv-loop μ-loop
 loop-again c =
-    let o = c .before .before .leave-out in
-    (omega (arith, c .before .before .before .before .loop-test .taken), o .ensures .0, kept-then (c .before .before .before .before .before .loop .inv .2) (o .ensures .1))
-
-same-length : tie.Need-same-length Inv-loop μ-loop
-same-length c = c .before .loop .inv .2 .size-same
-
-returns : tie.Need-returns Inv-loop μ-loop
-returns c = (c .before .loop .inv .1, c .before .loop .inv .2)
+    let o = c .leave-out in
+    let i = c .before .before in
+    (omega (arith, i .loop-test .taken), o .ensures .0, kept-then (i .before .loop .inv .2) (o .ensures .1))
 
 pub smaller-core-spec : {M : Type 1} → statement M
 smaller-core-spec =
@@ -49,8 +38,7 @@ smaller-core-spec =
     μ-loop
     loop-holds
     leave-out-requires
-    add-r
-    loop-less
+    (λ c. omega (arith, c .before .before .loop-test .taken))
+    (λ c. omega (arith, c .before .before .loop-test .taken))
     loop-again
-    same-length
-    returns)
+    (λ c. (c .before .loop .inv .1, c .before .loop .inv .2)))

@@ -1,8 +1,8 @@
 -- `find::seek` meets its contract. The invariant: the search stands at an arc of the node's chain, and what is left from there on makes of the search so far what
--- all that grows from the node makes of it (`Rest`), an arc being left out only where that changes nothing; the store stays true, and as
--- large, and its labels tell of ways that came to their nodes, where a standby is wanted (`Trails`).
+-- all that grows from the node makes of it (`Rest`), an arc being left out only where that changes nothing; the store stays true,
+-- and its labels tell of ways that came to their nodes, where a standby is wanted (`Trails`).
 -- The loop's measure is the arcs ahead, the recursion's the nodes not met. Assumes nothing.
-use mathlib.Core.Path.{_≡_, refl, sym, _∙_}
+use mathlib.Core.Path.{_≡_, sym, _∙_}
 use native.Mathlib.Omega.{arith}
 use lib.ListN.{length}
 use Rattle.laws.specs.Sets.{unmet}
@@ -66,7 +66,7 @@ called t = (
 )
 
 abbrev seek-Inv-loop : seek-lts.InvT-loop
-seek-Inv-loop net store₀ want at met t n f₀ i₀ store f i = (n ≡ length (arcsIn net)) × Rest net want at met t f₀ f i × (length store ≡ length store₀) × Stored net store × Trails (meshIn net) want store
+seek-Inv-loop net store₀ want at met t n f₀ i₀ store f i = (n ≡ length (arcsIn net)) × Rest net want at met t f₀ f i × Stored net store × Trails (meshIn net) want store
 
 abbrev seek-μ-loop : seek-lts.MeasureT-loop
 seek-μ-loop net store₀ want at met t n f₀ i₀ store f i = n - i
@@ -76,29 +76,29 @@ abbrev Looked : ℕ → Type 0
 Looked t = seek-lts.After-look (called t) (seek-at t) seek.Post seek-Inv-loop seek-μ-loop
 
 abbrev looped : (t : ℕ) → Looked t → seek-lts.At-loop (called t) (seek-at t) seek.Post seek-Inv-loop seek-μ-loop
-looped t k = k .before .before .before .before .before
+looped t k = k .before .before .before .before .before .before .before
 
 abbrev start : (t : ℕ) → Looked t → seek-lts.Start (called t) (seek-at t) seek.Post seek-Inv-loop seek-μ-loop
 start t k = looped t k .before .before .before .before .before
 
 inv : (t : ℕ) (k : Looked t) → let a = start t k .args in
-    (looped t k .before .before .arc-count .result ≡ length (arcsIn (a .net .now))) × Rest (a .net .now) (a .want) (a .at) (a .met) (a .t) (a .s) (looped t k .loop .f) (looped t k .loop .i)
-    × (length (looped t k .loop .store) ≡ length (a .store .now)) × Stored (a .net .now) (looped t k .loop .store)
+    (looped t k .before .before .before .arc-count .result ≡ length (arcsIn (a .net .now))) × Rest (a .net .now) (a .want) (a .at) (a .met) (a .t) (a .s) (looped t k .loop .f) (looped t k .loop .i)
+    × Stored (a .net .now) (looped t k .loop .store)
     × Trails (meshIn (a .net .now)) (a .want) (looped t k .loop .store)
 inv t k = looped t k .loop .inv
 
 inside : (t : ℕ) (k : Looked t) → looped t k .loop .i < length (arcsIn (start t k .args .net .now))
-inside t k = omega (arith, inv t k .0, k .before .before .before .before .loop-test .taken)
+inside t k = omega (arith, inv t k .0, k .before .before .before .before .before .before .loop-test .taken)
 
-next-is : (t : ℕ) (k : Looked t) → k .before .before .next .result ≡ wordAt (start t k .args .net .now) (nextFrom + looped t k .loop .i)
-next-is t k = k .before .before .next .ensures
+next-is : (t : ℕ) (k : Looked t) → k .before .before .before .next .result ≡ wordAt (start t k .args .net .now) (nextFrom + looped t k .loop .i)
+next-is t k = k .before .before .before .next .ensures
 
 -- what the arc is
 seen : (t : ℕ) (k : Looked t) {l : Leg} → k .look .result ≡ l → let a = start t k .args in legAt (a .net .now) (a .want .metres) (behind (a .met) (a .t .metres) (a .t .exposure)) (looped t k .loop .i) ≡ l
 seen t k q = sym (k .look .ensures) ∙ q
 
 -- the arcs ahead get fewer
-fewer-ahead : (t : ℕ) (k : Looked t) → let n = looped t k .before .before .arc-count .result in n - k .before .before .next .result < n - looped t k .loop .i
+fewer-ahead : (t : ℕ) (k : Looked t) → let n = looped t k .before .before .before .arc-count .result in n - k .before .before .before .next .result < n - looped t k .loop .i
 fewer-ahead t k = omega (arith, inv t k .0, inside t k, next-is t k, next-past (start t k .args .net .now) (start t k .args .want) (start t k .args .at) (start t k .args .met) (start t k .args .t) (start t k .pre .1 .0) (inv t k .1) (inside t k))
 
 ends : (t : ℕ) (k : Looked t) {e : Behind} → k .look .result ≡ Ends e → Ended (start t k .args .net .now) (start t k .args .want) (start t k .args .at) (start t k .args .met) (start t k .args .t) (start t k .pre .1 .0) (inv t k .1) (inside t k)
@@ -108,7 +108,7 @@ leads : (t : ℕ) (k : Looked t) {h : ℕ} {e : Behind} → k .look .result ≡ 
 leads t k q = rest-leads (start t k .args .net .now) (start t k .args .want) (start t k .args .at) (start t k .args .met) (start t k .args .t) (start t k .pre .1 .0) (inv t k .1) (inside t k) (seen t k q)
 
 seek-arc-count-requires : (t : ℕ) → seek-lts.Need-arc-count-requires (called t) (seek-at t) seek.Post seek-Inv-loop seek-μ-loop
-seek-arc-count-requires t c κs = c .before .before .pre .1 .0 .words
+seek-arc-count-requires t c κs = c .before .pre .1 .0 .words
 
 seek-first-requires : (t : ℕ) → seek-lts.Need-first-requires (called t) (seek-at t) seek.Post seek-Inv-loop seek-μ-loop
 seek-first-requires t c κs = let r = c .before .before .before .pre .1 .0 in (r .words, r .node)
@@ -117,31 +117,28 @@ seek-loop-holds : (t : ℕ) → seek-lts.Need-loop-holds (called t) (seek-at t) 
 seek-loop-holds t c =
     let s = c .before .before .before .before in
     let a = s .args in
-    (c .before .arc-count .ensures, rw (c .first .ensures) (rest-start (a .net .now) (a .want) (a .at) (a .met) (a .t) (s .pre .1 .0) (a .s) (s .pre .1 .2)), refl, s .pre .1 .1, s .pre .1 .3)
-
-seek-same-length : (t : ℕ) → seek-lts.Need-same-length (called t) (seek-at t) seek.Post seek-Inv-loop seek-μ-loop
-seek-same-length t c = c .before .before .loop .inv .2
+    (c .before .before .arc-count .ensures, rw (c .first .ensures) (rest-start (a .net .now) (a .want) (a .at) (a .met) (a .t) (s .pre .1 .0) (a .s) (s .pre .1 .2)), s .pre .1 .1, s .pre .1 .3)
 
 seek-returns : (t : ℕ) → seek-lts.Need-returns (called t) (seek-at t) seek.Post seek-Inv-loop seek-μ-loop
 seek-returns t c =
     let l = c .before .before .loop in
     let s = c .before .before .before .before .before .before .before in
     let a = s .args in
-    (l .inv .1 .fit, (rest-found (a .net .now) (a .want) (a .at) (a .met) (a .t) (s .pre .1 .0) (l .inv .1) (c .if1 .taken), (l .inv .3, l .inv .4)))
+    (l .inv .1 .fit, (rest-found (a .net .now) (a .want) (a .at) (a .met) (a .t) (s .pre .1 .0) (l .inv .1) (c .if1 .taken), (l .inv .2, l .inv .3)))
 
 seek-next-requires : (t : ℕ) → seek-lts.Need-next-requires (called t) (seek-at t) seek.Post seek-Inv-loop seek-μ-loop
 seek-next-requires t c κs =
-    let l = c .before .before in
-    (l .before .before .before .before .before .pre .1 .0 .words, omega (arith, l .loop .inv .0, c .before .loop-test .taken))
+    let l = c .before .before .before in
+    (l .before .before .before .before .before .pre .1 .0 .words, omega (arith, l .loop .inv .0, c .before .before .loop-test .taken))
 
 seek-cast-metres : (t : ℕ) → seek-lts.Need-cast-metres (called t) (seek-at t) seek.Post seek-Inv-loop seek-μ-loop
 seek-cast-metres t c = search needs
 
 seek-look-requires : (t : ℕ) → seek-lts.Need-look-requires (called t) (seek-at t) seek.Post seek-Inv-loop seek-μ-loop
 seek-look-requires t c κs =
-    let l = c .before .before .before .before in
+    let l = c .before .before .before .before .before .before in
     let r = l .before .before .before .before .before .pre .1 .0 in
-    (r .words, omega (arith, l .loop .inv .0, c .before .before .before .loop-test .taken), omega (arith, r .not-past, r .range .metres-range))
+    (r .words, omega (arith, l .loop .inv .0, c .before .before .before .before .before .loop-test .taken), omega (arith, r .not-past, r .range .metres-range))
 
 seek-enum-told : (t : ℕ) → seek-lts.Need-enum-told (called t) (seek-at t) seek.Post seek-Inv-loop seek-μ-loop
 seek-enum-told t c = search needs
@@ -152,7 +149,7 @@ seek-loop-less t c = fewer-ahead t (c .before .before)
 seek-loop-again : (t : ℕ) → seek-lts.Need-loop-again (called t) (seek-at t) seek.Post seek-Inv-loop seek-μ-loop
 seek-loop-again t c =
     let k = c .before .before in
-    (inv t k .0, rw (next-is t k) (rest-met (start t k .args .net .now) (start t k .args .want) (start t k .args .at) (start t k .args .met) (start t k .args .t) (start t k .pre .1 .0) (inv t k .1) (inside t k) (seen t k (c .enum-told .given .1))), inv t k .2, inv t k .3, inv t k .4)
+    (inv t k .0, rw (next-is t k) (rest-met (start t k .args .net .now) (start t k .args .want) (start t k .args .at) (start t k .args .met) (start t k .args .t) (start t k .pre .1 .0) (inv t k .1) (inside t k) (seen t k (c .enum-told .given .1))), inv t k .2, inv t k .3)
 
 seek-enum-told-2 : (t : ℕ) → seek-lts.Need-enum-told-2 (called t) (seek-at t) seek.Post seek-Inv-loop seek-μ-loop
 seek-enum-told-2 t c = search needs
@@ -163,7 +160,7 @@ seek-loop-less-2 t c = fewer-ahead t (c .before .before)
 seek-loop-again-2 : (t : ℕ) → seek-lts.Need-loop-again-2 (called t) (seek-at t) seek.Post seek-Inv-loop seek-μ-loop
 seek-loop-again-2 t c =
     let k = c .before .before in
-    (inv t k .0, rw (next-is t k) (rest-past (start t k .args .net .now) (start t k .args .want) (start t k .args .at) (start t k .args .met) (start t k .args .t) (start t k .pre .1 .0) (inv t k .1) (inside t k) (seen t k (c .enum-told2 .given .1))), inv t k .2, inv t k .3, inv t k .4)
+    (inv t k .0, rw (next-is t k) (rest-past (start t k .args .net .now) (start t k .args .want) (start t k .args .at) (start t k .args .met) (start t k .args .t) (start t k .pre .1 .0) (inv t k .1) (inside t k) (seen t k (c .enum-told2 .given .1))), inv t k .2, inv t k .3)
 
 seek-enum-told-3 : (t : ℕ) → seek-lts.Need-enum-told-3 (called t) (seek-at t) seek.Post seek-Inv-loop seek-μ-loop
 seek-enum-told-3 t c = search needs
@@ -178,17 +175,16 @@ seek-meet-requires : (t : ℕ) → seek-lts.Need-meet-requires (called t) (seek-
 seek-meet-requires t c κs =
     let k = c .before .before .before .before in
     let r = start t k .pre .1 .0 in
-    (r .words, inv t k .3, r .range, c .over .ensures .fit, inv t k .1 .fit, k .before .before .before .if1 .left)
+    (r .words, inv t k .2, r .range, c .over .ensures .fit, inv t k .1 .fit, k .before .before .before .before .before .if1 .left)
 
 seek-loop-less-3 : (t : ℕ) → seek-lts.Need-loop-less-3 (called t) (seek-at t) seek.Post seek-Inv-loop seek-μ-loop
-seek-loop-less-3 t c = fewer-ahead t (c .before .before .before .before .before .before .before)
+seek-loop-less-3 t c = fewer-ahead t (c .before .before .before .before .before)
 
 seek-loop-again-3 : (t : ℕ) → seek-lts.Need-loop-again-3 (called t) (seek-at t) seek.Post seek-Inv-loop seek-μ-loop
 seek-loop-again-3 t c =
-    let m = c .before .before in
-    let o = m .before in
+    let o = c .before in
     let k = o .before .before .before .before in
-    (inv t k .0, rw (next-is t k) (ends t k (o .before .before .enum-told3 .given .1) .gives (o .over .result) (o .over .ensures) (m .meet .result) (m .meet .ensures .0) (m .meet .ensures .1 .0)), m .meet .kept .1 .0 ∙ inv t k .2, m .meet .ensures .1 .1 .0, trails-same (meshIn (start t k .args .net .now)) (start t k .args .want) (m .meet .ensures .1 .1 .1) (inv t k .4))
+    (inv t k .0, rw (next-is t k) (ends t k (o .before .before .enum-told3 .given .1) .gives (o .over .result) (o .over .ensures) (c .meet .result) (c .meet .ensures .0) (c .meet .ensures .1 .0)), c .meet .ensures .1 .1 .0, trails-same (meshIn (start t k .args .net .now)) (start t k .args .want) (c .meet .ensures .1 .1 .1) (inv t k .3))
 
 seek-enum-known-head : (t : ℕ) → seek-lts.Need-enum-known-head (called t) (seek-at t) seek.Post seek-Inv-loop seek-μ-loop
 seek-enum-known-head t c = search needs
@@ -203,13 +199,13 @@ seek-loop-again-4 : (t : ℕ) → seek-lts.Need-loop-again-4 (called t) (seek-at
 seek-loop-again-4 t c =
     let m = c .before in
     let k = m .before .before .before .before in
-    (inv t k .0, rw (next-is t k) (rest-much (start t k .args .net .now) (start t k .args .want) (start t k .args .at) (start t k .args .met) (start t k .args .t) (start t k .pre .1 .0) (inv t k .1) (inside t k) (seen t k (m .before .before .head .given .1)) (sym (m .shares-too-much .ensures) ∙ c .if2 .taken)), inv t k .2, inv t k .3, inv t k .4)
+    (inv t k .0, rw (next-is t k) (rest-much (start t k .args .net .now) (start t k .args .want) (start t k .args .at) (start t k .args .met) (start t k .args .t) (start t k .pre .1 .0) (inv t k .1) (inside t k) (seen t k (m .before .before .head .given .1)) (sym (m .shares-too-much .ensures) ∙ c .if2 .taken)), inv t k .2, inv t k .3)
 
 seek-comes-late-requires : (t : ℕ) → seek-lts.Need-comes-late-requires (called t) (seek-at t) seek.Post seek-Inv-loop seek-μ-loop
 seek-comes-late-requires t c κs =
     let h = c .before .before .before .before in
     let k = h .before .before in
-    (omega (arith, inv t k .3 .sized .least), leads t k (h .head .given .1) .node)
+    (omega (arith, inv t k .2 .sized .least), leads t k (h .head .given .1) .node)
 
 -- where it was asked whether the head was come to late
 abbrev Asked : ℕ → Type 0
@@ -220,63 +216,58 @@ looked t d = d .before .before .before .before .before .before .before
 
 -- the store then
 asked-store : (t : ℕ) (d : Asked t) → let a = start t (looked t d) .args in
-    (length (d .comes-late .last .0) ≡ length (a .store .now)) × Stored (a .net .now) (d .comes-late .last .0) × Trails (meshIn (a .net .now)) (a .want) (d .comes-late .last .0)
+    Stored (a .net .now) (d .comes-late .last .0) × Trails (meshIn (a .net .now)) (a .want) (d .comes-late .last .0)
 asked-store t d =
     let k = looked t d in
     let a = start t k .args in
     let o = leads t k (d .before .before .before .before .before .head .given .1) in (
-      d .comes-late .kept .0 ∙ inv t k .2,
-      stored-arrived (a .net .now) (d .comes-late .kept .0) (d .comes-late .ensures .1) (inv t k .3),
-      trails-arrived (meshIn (a .net .now)) (a .want) _ (inv t k .4) (o .came) (d .comes-late .ensures .1),
+      stored-arrived (a .net .now) (d .comes-late .ensures .1) (inv t k .2),
+      trails-arrived (meshIn (a .net .now)) (a .want) _ (inv t k .3) (o .came) (d .comes-late .ensures .1),
     )
 
 seek-loop-less-5 : (t : ℕ) → seek-lts.Need-loop-less-5 (called t) (seek-at t) seek.Post seek-Inv-loop seek-μ-loop
-seek-loop-less-5 t c = fewer-ahead t (c .before .before .before .before .before .before .before .before .before .before)
+seek-loop-less-5 t c = fewer-ahead t (looked t (c .before))
 
 seek-loop-again-5 : (t : ℕ) → seek-lts.Need-loop-again-5 (called t) (seek-at t) seek.Post seek-Inv-loop seek-μ-loop
 seek-loop-again-5 t c =
-    let d = c .before .before .before in
+    let d = c .before in
     let k = looked t d in
     let z = asked-store t d in
     let l = d .comes-late .ensures .0 (c .if3 .taken) in
-    (inv t k .0, rw (next-is t k) (rest-late (start t k .args .net .now) (start t k .args .want) (start t k .args .at) (start t k .args .met) (start t k .args .t) (start t k .pre .1 .0) (inv t k .1) (inside t k) (seen t k (d .before .before .before .before .before .head .given .1)) (l .0) (inv t k .4) (l .1)), z .0, z .1, z .2)
+    (inv t k .0, rw (next-is t k) (rest-late (start t k .args .net .now) (start t k .args .want) (start t k .args .at) (start t k .args .met) (start t k .args .t) (start t k .pre .1 .0) (inv t k .1) (inside t k) (seen t k (d .before .before .before .before .before .head .given .1)) (l .0) (inv t k .3) (l .1)), z .0, z .1)
 
 seek-over-requires-2 : (t : ℕ) → seek-lts.Need-over-requires-2 (called t) (seek-at t) seek.Post seek-Inv-loop seek-μ-loop
 seek-over-requires-2 t c κs =
-    let h = c .before .before .before .before .before .before .before .before .before in
-    let k = h .before .before in
+    let d = c .before .before in
+    let k = looked t d in
     let r = start t k .pre .1 .0 in
-    (r .words, inside t k, r .fit, leads t k (h .head .given .1) .room, omega (arith, r .not-past, r .range .metres-range))
+    (r .words, inside t k, r .fit, leads t k (d .before .before .before .before .before .head .given .1) .room, omega (arith, r .not-past, r .range .metres-range))
 
 seek-seek-requires : (t : ℕ) → seek-lts.Need-seek-requires (called t) (seek-at t) seek.Post seek-Inv-loop seek-μ-loop
 seek-seek-requires t c κs =
-    let d = c .before .before .before .before .before in
+    let d = c .before .before .before in
     let k = looked t d in
     let o = leads t k (d .before .before .before .before .before .head .given .1) in
     let z = asked-store t d in
-    (omega (arith, start t k .pre .0, o .fewer), (o .goes (c .over2 .result) (c .over2 .ensures), z .1, inv t k .1 .fit, z .2))
+    (omega (arith, start t k .pre .0, o .fewer), (o .goes (c .over2 .result) (c .over2 .ensures), z .0, inv t k .1 .fit, z .1))
 
 seek-loop-less-6 : (t : ℕ) → seek-lts.Need-loop-less-6 (called t) (seek-at t) seek.Post seek-Inv-loop seek-μ-loop
-seek-loop-less-6 t c = fewer-ahead t (c .before .before .before .before .before .before .before .before .before .before .before .before .before .before .before)
+seek-loop-less-6 t c = fewer-ahead t (looked t (c .before .before .before .before))
 
 seek-loop-again-6 : (t : ℕ) → seek-lts.Need-loop-again-6 (called t) (seek-at t) seek.Post seek-Inv-loop seek-μ-loop
 seek-loop-again-6 t c =
-    let m = c .before .before in
-    let o = m .before in
-    let d = o .before .before .before .before .before in
+    let o = c .before in
+    let d = o .before .before .before in
     let k = looked t d in
-    let e = m .seek .ensures in
-    (inv t k .0, rw (next-is t k) (leads t k (d .before .before .before .before .before .head .given .1) .gives (o .over2 .result) (o .over2 .ensures) (m .seek .result) (e .0) (e .1 .0)), m .seek .kept .1 .0 ∙ asked-store t d .0, e .1 .1 .0, e .1 .1 .1)
-
-seek-same-length-2 : (t : ℕ) → seek-lts.Need-same-length-2 (called t) (seek-at t) seek.Post seek-Inv-loop seek-μ-loop
-seek-same-length-2 t c = c .before .loop .inv .2
+    let e = c .seek .ensures in
+    (inv t k .0, rw (next-is t k) (leads t k (d .before .before .before .before .before .head .given .1) .gives (o .over2 .result) (o .over2 .ensures) (c .seek .result) (e .0) (e .1 .0)), e .1 .1 .0, e .1 .1 .1)
 
 seek-returns-2 : (t : ℕ) → seek-lts.Need-returns-2 (called t) (seek-at t) seek.Post seek-Inv-loop seek-μ-loop
 seek-returns-2 t c =
     let l = c .before .loop in
     let s = c .before .before .before .before .before .before in
     let a = s .args in
-    (l .inv .1 .fit, (rest-end (a .net .now) (a .want) (a .at) (a .met) (a .t) (s .pre .1 .0) (l .inv .1) (omega (arith, l .inv .0)), (l .inv .3, l .inv .4)))
+    (l .inv .1 .fit, (rest-end (a .net .now) (a .want) (a .at) (a .met) (a .t) (s .pre .1 .0) (l .inv .1) (omega (arith, l .inv .0)), (l .inv .2, l .inv .3)))
 
 pub +seek-spec : {M : Type 1} → statement M
 +seek-spec = close μ-seek λ t. seek-lts.spec (called t)
@@ -287,7 +278,6 @@ pub +seek-spec : {M : Type 1} → statement M
     (seek-arc-count-requires t)
     (seek-first-requires t)
     (seek-loop-holds t)
-    (seek-same-length t)
     (seek-returns t)
     (seek-next-requires t)
     (seek-cast-metres t)
@@ -314,5 +304,4 @@ pub +seek-spec : {M : Type 1} → statement M
     (seek-seek-requires t)
     (seek-loop-less-6 t)
     (seek-loop-again-6 t)
-    (seek-same-length-2 t)
     (seek-returns-2 t)

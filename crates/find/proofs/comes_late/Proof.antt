@@ -13,12 +13,11 @@ returns c = (λ e. absurd (false≢true e), Arrived.same refl)
 returns-2 : tie.Need-returns-2
 returns-2 c =
     let k = c .before in
-    (λ e. (k .before .before .if1 .left, k .shorter-known .ensures (c .if2 .taken)), Arrived.same refl)
+    (λ e. (k .before .before .before .if1 .left, k .shorter-known .ensures (c .if2 .taken)), Arrived.same refl)
 
 returns-3 : tie.Need-returns-3
 returns-3 c =
-    let k = c .before .before in
-    (λ e. absurd (false≢true e), Arrived.labelled (rw (k .before .common .ensures) at (k .keep .ensures)))
+    (λ e. absurd (false≢true e), Arrived.labelled (rw (c .before .common .ensures) at (c .keep .ensures)))
 
 pub comes-late-spec : {M : Type 1} → statement M
 comes-late-spec =
@@ -26,9 +25,7 @@ comes-late-spec =
     (tie.spec
     returns
     (λ c κs. search needs)
-    (λ c. search needs)
     returns-2
     (λ c κs. search needs)
     (λ c κs. search needs)
-    (λ c. search needs)
     returns-3)

@@ -9,32 +9,31 @@ use Rattle.find.proofs.first_route.Statement.{statement}
 use Rattle.find.proofs.first_route.Tie as tie
 
 clear-requires : tie.Need-clear-requires
-clear-requires c κs = omega (arith, c .before .before .before .pre .1 .sized .least)
+clear-requires c κs = omega (arith, c .before .pre .1 .sized .least)
 
 seek-requires : tie.Need-seek-requires
 seek-requires c κs =
     let e = c .before in
     let m = e .before in
-    let k = m .before .before .before .before in
-    let s = k .before .before .before .before in
+    let k = m .before .before .before in
+    let s = k .before .before in
     let t = e .empty in (
       ready-first (s .args .net .now) (s .pre .0) (s .args .want) (m .before .source .ensures .0) (m .with .ensures) (t .result) (t .ensures) (s .pre .2),
-      stored-cleared (s .args .net .now) (k .clear .kept .0) (k .clear .ensures) (s .pre .1),
+      stored-cleared (s .args .net .now) (k .clear .ensures) (s .pre .1),
       t .ensures .fit,
       trails-none (meshIn (s .args .net .now)) (s .args .want) (k .clear .ensures),
     )
 
 returns : tie.Need-returns
 returns c =
-    let k = c .before .before in
-    let e = k .before .before in
+    let e = c .before .before in
     let m = e .before in
-    let s = m .before .before .before .before .before .before .before .before in
+    let s = m .before .before .before .before .before in
     let t = e .empty in (
-      k .seek .ensures .0,
+      c .seek .ensures .0,
       (
-        λ sure. first-outcome (s .args .net .now) (s .pre .0) (s .args .want) (m .before .source .ensures .0) (m .with .ensures) (t .result) (t .ensures) (k .seek .ensures .1 .0 sure),
-        k .seek .ensures .1 .1 .0,
+        λ sure. first-outcome (s .args .net .now) (s .pre .0) (s .args .want) (m .before .source .ensures .0) (m .with .ensures) (t .result) (t .ensures) (c .seek .ensures .1 .0 sure),
+        c .seek .ensures .1 .1 .0,
       ),
     )
 
@@ -48,5 +47,4 @@ first-route-spec =
     (λ c κs. search needs)
     (λ c κs. search needs)
     seek-requires
-    (λ c. search needs)
     returns)

@@ -10,7 +10,7 @@ use Rattle.find.proofs.meet.Statement.{statement}
 use Rattle.find.proofs.meet.Tie as tie
 
 abbrev start : tie.After-wanted → tie.Start
-start k = k .before .before .before .before .before .before .before
+start k = k .before .before .before .before .before
 
 cast-if1 : tie.Need-cast-if1
 cast-if1 c = search needs
@@ -18,7 +18,7 @@ cast-if1 c = search needs
 returns : tie.Need-returns
 unfolding routeIn
 returns c =
-    let s = c .before .before .before .before .before in
+    let s = c .before .before .before in
     let a = s .args in
     (s .pre .4, (sym (meet-other (meshIn (a .net .now)) (a .want) (soughtIn (a .s)) (routeIn (a .t)) (c .if1 .taken)), (s .pre .1, λ e. refl)))
 
@@ -28,7 +28,7 @@ wanted-requires c κs = search needs
 returns-2 : tie.Need-returns-2
 unfolding routeIn
 returns-2 c =
-    let k = c .before .before .before in
+    let k = c .before in
     let s = start k in
     let a = s .args in
     let passes = sym (k .wanted .ensures .0) ∙ c .if2 .taken in
@@ -41,7 +41,7 @@ returns-3 : tie.Need-returns-3
 unfolding routeIn
 returns-3 c =
     let m = c .before .before in
-    let k = m .before .before .before .before in
+    let k = m .before .before in
     let s = start k in
     let a = s .args in
     let fails = sym (k .wanted .ensures .0) ∙ m .before .if2 .left in
@@ -50,7 +50,7 @@ returns-3 c =
 returns-4 : tie.Need-returns-4
 unfolding routeIn
 returns-4 c =
-    let k = c .before .before .before .before in
+    let k = c .before .before in
     let s = start k in
     let a = s .args in
     let fails = sym (k .wanted .ensures .0) ∙ c .before .if2 .left in
@@ -63,10 +63,7 @@ meet-spec =
     cast-if1
     returns
     wanted-requires
-    (λ c. search needs)
     returns-2
     one-more-requires
-    (λ c. search needs)
     returns-3
-    (λ c. search needs)
     returns-4)

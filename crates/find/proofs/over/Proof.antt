@@ -10,10 +10,10 @@ use Rattle.find.proofs.over.Tie as tie
 returns : tie.Need-returns
 returns c =
     let x = c .before in
-    let s = x .before .before .before in
+    let s = x .before .before .before .before in
     record {
       fit = c .extend .ensures .fit;
-      route = c .extend .ensures .route ∙ ap₂ (λ (m : ℕ) (e : Exposure). onward (routeIn (s .args .t)) (s .args .i) m e) (x .before .metres .ensures .0) (x .exposure .ensures);
+      route = c .extend .ensures .route ∙ ap₂ (λ (m : ℕ) (e : Exposure). onward (routeIn (s .args .t)) (s .args .i) m e) (x .before .before .metres .ensures .0) (x .exposure .ensures);
     }
 
 pub over-spec : {M : Type 1} → statement M

@@ -16,13 +16,14 @@ chained-requires c κs =
 returns : tie.Need-returns
 returns c =
     let request = c .before .before in
-    let doors = request .before .before .before .before .before .before .before .before in
+    let spans = request .before .before .before .before .before .before in
+    let doors = spans .before .before .before in
     let nodes = doors .before .before .before .before in
     let arcs = nodes .before .before .before .before .before in
     let chained = arcs .before .before .before in
     let s = chained .before .before .before in
     laid-out (s .pre .0) (s .pre .1 .0) (chained .chained .ensures) (s .pre .1 .1) (arcs .lay-arcs .ensures) (nodes .lay-nodes .ensures) (doors .lay-doors .ensures)
-    (rw (arcs-length (s .args .table .now)) (request .spread .ensures))
+    (spans .spanned .ensures .0) (rw (arcs-length (s .args .table .now)) (request .spread .ensures))
 
 pub lay-out-spec : {M : Type 1} → statement M
 lay-out-spec =
@@ -32,6 +33,7 @@ lay-out-spec =
     (search needs)
     (λ c κs. search needs)
     (search needs)
+    (λ c κs. search needs)
     (λ c κs. search needs)
     (λ c κs. search needs)
     (λ c. search needs)

@@ -19,11 +19,11 @@ plan-requires c κs =
 
 returns : tie.Need-returns
 returns c =
-    let laid = c .before .before .before .before .before .before .before .before .before in
+    let laid = c .before .before .before .before .before .before .before in
     let sized = laid .before .before in
     let common = sized .before in
     let start = common .before .before .before in
-    made-planned (start .pre .0) (laid .lay-out .ensures) (start .pre .1 .1) (floor-counted (start .pre .0) (common .common-exposure .ensures) (sized .size .ensures .0)) (c .before .choose .ensures)
+    made-planned (start .pre .0) (laid .lay-out .ensures) (start .pre .1 .1) (floor-counted (start .pre .0) (common .common-exposure .ensures) (sized .size .ensures .0)) (c .choose .ensures)
 
 pub make-spec : {M : Type 1} → statement M
 make-spec =
@@ -34,11 +34,7 @@ make-spec =
     (λ c κs. search needs)
     (λ c. search needs)
     (λ c κs. search needs)
-    (λ c. search needs)
-    (λ c. search needs)
     plan-requires
-    (λ c. search needs)
-    (λ c. search needs)
     (λ c κs. search needs)
     (λ c. search needs)
     returns)

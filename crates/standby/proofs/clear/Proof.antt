@@ -17,6 +17,7 @@ returns c =
     record {
       none = getD-set-other (set store labelledAt 0) workAt labelledAt 0 0 (λ z. absurd (omega arith)) ∙ getD-set-same store labelledAt 0 0 (omega (arith, c .pre));
       frame = record {
+        size = simp length-set;
         same = λ k h.
             getD-set-other (set store labelledAt 0) workAt k 0 0 (λ z. absurd (omega arith)) ∙ getD-set-other store labelledAt k 0 0 (λ z. absurd (omega arith));
       };

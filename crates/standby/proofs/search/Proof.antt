@@ -1,48 +1,46 @@
 -- `standby::search` meets its contract: with no label to begin with, and only banned nodes behind the source, all that the search from there counts on is true.
 -- Assumes nothing.
-use mathlib.Core.Path.{sym, _∙_}
+use mathlib.Core.Path.{_≡_, refl, sym, _∙_}
 use native.Mathlib.Omega.{arith}
 use borrow.Author.Needs.{needs}
+use mathlib.Core.List.{[], _∷_}
+use Rattle.problem.specs.Exposures.{toNothing}
+use Rattle.standby.specs.Standby.{exposedTo}
+use Rattle.standby.proofs.SharedLaws.{shared-none}
 use Rattle.standby.proofs.SeekLaws.{sought-least, sought-below, sought-frame}
 use Rattle.standby.proofs.search.Statement.{statement}
 use Rattle.standby.proofs.search.Tie as tie
 
+-- nothing lies behind the source
+none : exposedTo 0 (0 ∷ 0 ∷ []) ≡ toNothing
+unfolding toNothing
+none = refl
+
 seek-requires : tie.Need-seek-requires
 seek-requires c κs =
-    let d = c .before .before in
-    let o = d .before .before .source .ensures in
-    let k = d .before .before .before .before .before in
-    let s = k .before .before .before .before in (
-      record { words = s .pre .0; doors = d .door .ensures; node = o .1; onward = λ e. s .pre .0 .ends-differ (sym (o .0) ∙ e); in-reach = omega arith },
-      omega (arith, s .pre .1, k .clear .kept .0),
+    let o = c .before .before .before .before in
+    let k = o .before .before in
+    let s = k .before .before in
+    let at = o .source .ensures in (
+      record { words = s .pre .0; doors = s .pre .2; node = at .1; onward = λ e. s .pre .0 .ends-differ (sym (at .0) ∙ e); in-reach = omega arith },
+      omega (arith, s .pre .1, k .clear .ensures .frame .size),
+      shared-none (s .args .main) none,
     )
 
 returns : tie.Need-returns
 returns c =
-    let e = c .before .before .before in
-    let w = e .before .before .before in
-    let k = w .before .before .before .before in
-    let s = k .before .before .before .before in
-    let a = s .args in
-    let at = w .before .source .ensures .0 in
-    let found = c .before .before .seek .ensures in (
-      sought-least (a .net .now) (a .main) (a .nodes) (a .bound) at (w .with .ensures) (e .nothing .ensures) (k .clear .ensures) found,
+    let w = c .before .before .before .before in
+    let o = w .before in
+    let k = o .before .before in
+    let a = k .before .before .args in
+    let at = o .source .ensures .0 in
+    let found = c .seek .ensures in (
+      sought-least (a .net .now) (a .main) (a .nodes) (a .bound) at (w .with .ensures) none (k .clear .ensures) found,
       (
-        sought-below (a .net .now) (a .main) (a .nodes) (a .bound) at (w .with .ensures) (e .nothing .ensures) (k .clear .ensures) found,
-        sought-frame (a .net .now) (a .main) (a .nodes) (a .bound) at (w .with .ensures) (e .nothing .ensures) (k .clear .ensures) found,
+        sought-below (a .net .now) (a .main) (a .nodes) (a .bound) at (w .with .ensures) none (k .clear .ensures) found,
+        sought-frame (a .net .now) (a .main) (a .nodes) (a .bound) at (w .with .ensures) none (k .clear .ensures) found,
       ),
     )
 
 pub search-spec : {M : Type 1} → statement M
-search-spec =
-    tie.close
-    (tie.spec
-    (λ c κs. search needs)
-    (λ c κs. search needs)
-    (λ c. search needs)
-    (λ c κs. search needs)
-    (λ c κs. search needs)
-    (λ c κs. search needs)
-    seek-requires
-    (λ c. search needs)
-    returns)
+search-spec = tie.close (tie.spec (λ c κs. search needs) (λ c κs. search needs) (λ c. search needs) (λ c κs. search needs) seek-requires returns)
