@@ -120,7 +120,7 @@ fn leave_out(
         return core;
     }
     let less = exposure::all_but(core, r);
-    let key = standby::search(net, store, less, standby::door(net, less), nodes, bound);
+    let key = plain::search(net, store, less, standby::door(net, less), nodes, bound);
     spend(store);
     if key < bound {
         return core;
@@ -201,7 +201,7 @@ fn best(
     if bound <= keys::standby_key(door, shortest) {
         return bound;
     }
-    let key = standby::search(net, store, main, door, nodes, bound);
+    let key = plain::search(net, store, main, door, nodes, bound);
     if !is_due(store) {
         return key;
     }

@@ -5,7 +5,7 @@ use Prim.Native.Nat.{ℕ, zero, suc, _+_, _-_, _/_, _%_, _^_, _≤_, _<_, min, m
 use native.Mathlib.Nat.{le-refl, lt-of-lt-of-le, pow-suc, pow-succ', div-one, div-div-eq-div-mul, div-lt-iff-lt-mul, not-suc-le-zero}
 use native.Mathlib.Omega.{arith}
 use lib.Arith.{lt-one}
-use lib.Bits.{bitAnd, bitOr, and-step, or-step, and-shr, or-shr, and-le-l, and-self}
+use lib.Bits.{bitAnd, bitOr, and-step, or-step, and-shr, or-shr, and-le-l, and-le-r, and-self, or-add-and}
 use lib.Count.{onesIn, ones, ones-step}
 use lib.ListN.{length}
 use lib.Pow.{pow-mono, pow-pos}
@@ -98,6 +98,12 @@ bit-full (suc d) (suc r) h =
 
 pub or-assoc : (x y z : ℕ) → bitOr (bitOr x y) z ≡ bitOr x (bitOr y z)
 or-assoc x y z = bits-ext _ _ (λ r. simp bit-or (omega arith))
+
+-- two sets that together have no element are empty
+pub or-none : (x y : ℕ) → bitOr x y ≡ 0 → (x ≡ 0) × (y ≡ 0)
+or-none x y e =
+    let few : x + y ≡ 0 = omega (arith, or-add-and x y, and-le-l x y, and-le-r x y) in
+    (omega (arith, few), omega (arith, few))
 
 -- what lies within a set that has nothing in common with another has nothing in common with it either
 pub and-within : (x y z : ℕ) → ((r : ℕ) → bit x r ≤ bit y r) → bitAnd y z ≡ 0 → bitAnd x z ≡ 0

@@ -8,7 +8,7 @@ ghost use lib.ListN.{length};
 ghost use Rattle.problem.specs.Table.{mostTableBytes, arcsOf};
 ghost use Rattle.problem.specs.Exposures.{toNothing};
 ghost use Rattle.problem.specs.Reply.{meshOver, Checked};
-ghost use Rattle.spans.specs.Marks.{SomeSpan, NoSpan};
+ghost use Rattle.spans.specs.Marks.{NoSpan};
 ghost use Rattle.side.specs.Side.{SideTable};
 ghost use Rattle.chain.specs.Chain.{chainSize};
 ghost use Rattle.net.specs.Net.{netSize};
@@ -115,19 +115,9 @@ fn lay_doors(net: &mut [u64], table: &[u8], q: Request) -> usize
     count
 }
 
-// 0 where no arc has a span.
-fn spanned(table: &[u8]) -> u64
-    ensures { λ r. ⌜ (r ≡ 0 → NoSpan (arcsOf (now (table .entry)))) × ((r ≡ 0 → ⊥) → SomeSpan (arcsOf (now (table .entry)))) ⌝ }
-{
-    if spans::any(table) {
-        return 1;
-    }
-    0
-}
-
-// Writes the table and the request as words, over whatever stands there. `side` is the side table with nothing banned.
-pub fn lay_out(net: &mut [u64], table: &[u8], q: Request, side: Side)
-    requires { ⌜ Checked (now table) q ⌝ }
+// Writes the table and the request as words, over whatever stands there. `side` is the side table with nothing banned, `spanned` is 0 only where no arc has a span.
+pub fn lay_out(net: &mut [u64], table: &[u8], q: Request, side: Side, spanned: u64)
+    requires { ⌜ Checked (now table) q × (spanned ≡ 0 → NoSpan (arcsOf (now table))) ⌝ }
     requires { ⌜ SideTable (arcsOf (now table)) (q .terminal) toNothing side ⌝ }
     requires { ⌜ length (now net) ≡ netSize ⌝ }
     ensures { λ _. ⌜ LaidOut (meshOver (arcsOf (now (table .entry))) q) side (now (net .exit)) ⌝ }
@@ -137,7 +127,6 @@ pub fn lay_out(net: &mut [u64], table: &[u8], q: Request, side: Side)
     lay_arcs(net, table, &chain);
     lay_nodes(net, &chain, side);
     let doors = lay_doors(net, table, q);
-    let spanned = spanned(table);
     let request = [
         count as u64,
         q.terminal as u64,

@@ -11,6 +11,7 @@ ghost use Rattle.problem.specs.Exposures.{toNothing};
 ghost use Rattle.problem.specs.Routes.{ranking};
 ghost use Rattle.problem.specs.Reply.{meshOver, meshOf, Checked};
 ghost use Rattle.side.specs.Side.{SideTable};
+ghost use Rattle.spans.specs.Marks.{NoSpan};
 ghost use Rattle.planner.specs.Planner.{Planned};
 
 // What planning makes of a call: whether there is a route, the floor, and what else a reply says.
@@ -35,9 +36,9 @@ fn nothing() -> Made
     }
 }
 
-// Plans where there is a route. `side` is the side table with nothing banned.
-fn make(table: &[u8], q: Request, side: Side) -> Made
-    requires { ⌜ Checked (now table) q ⌝ }
+// Plans where there is a route. `side` is the side table with nothing banned, `spanned` is 0 only where no arc has a span.
+fn make(table: &[u8], q: Request, spanned: u64, side: Side) -> Made
+    requires { ⌜ Checked (now table) q × (spanned ≡ 0 → NoSpan (arcsOf (now table))) ⌝ }
     requires { ⌜ SideTable (arcsOf (now table)) (q .terminal) toNothing side ⌝ }
     requires { ⌜ 0 < length (ranking (meshOver (arcsOf (now table)) q)) ⌝ }
     ensures { λ r. ⌜ Planned (ranking (meshOver (arcsOf (now (table .entry))) q)) (q .allowance) r ⌝ }
@@ -47,7 +48,7 @@ fn make(table: &[u8], q: Request, side: Side) -> Made
     let floor = exposure::size(common);
     // The first fill is never read; a value whose bytes differ makes it a few vector stores in a loop, where 0 would be a call of memset.
     let mut net = [layout::FAR; net::SIZE];
-    layout::lay_out(&mut net, table, q, side);
+    layout::lay_out(&mut net, table, q, side, spanned);
     let mut store = [0; cores::OWN_WORDS];
     let run = plan::plan(&net, &mut store, allowance, floor);
     let choice = choose::choose(&net, &mut store, allowance, run);
@@ -58,9 +59,9 @@ fn make(table: &[u8], q: Request, side: Side) -> Made
     }
 }
 
-// Plans over the arcs of a table as they are read. There is a route exactly where the shortest way fits the reach.
-fn plan_read(table: &[u8], q: Request) -> Made
-    requires { ⌜ Checked (now table) q ⌝ }
+// Plans over the arcs of a table as they are read; `spanned` is 0 only where none has a span. There is a route exactly where the shortest way fits the reach.
+fn plan_read(table: &[u8], q: Request, spanned: u64) -> Made
+    requires { ⌜ Checked (now table) q × (spanned ≡ 0 → NoSpan (arcsOf (now table))) ⌝ }
     ensures { λ r. ⌜ Planned (ranking (meshOver (arcsOf (now (table .entry))) q)) (q .allowance) r ⌝ }
 {
     let side = side::side_table(table, q.terminal as u8, exposure::nothing());
@@ -71,7 +72,7 @@ fn plan_read(table: &[u8], q: Request) -> Made
     if q.reach < entry.metres {
         return nothing();
     }
-    make(table, q, side)
+    make(table, q, spanned, side)
 }
 
 // Plans a call whose checks have passed. A table without spans is planned over as it is, any other with its spans known by their first arcs.
@@ -80,9 +81,9 @@ pub fn plan_checked(table: &[u8], q: Request) -> Made
     ensures { λ r. ⌜ Planned (ranking (meshOf (now (table .entry)) q)) (q .allowance) r ⌝ }
 {
     if !spans::any(table) {
-        return plan_read(table, q);
+        return plan_read(table, q, 0);
     }
     let mut marked = [0; problem::MOST_TABLE_BYTES];
     spans::put_all(&mut marked, table);
-    plan_read(&marked[0..table.len()], q)
+    plan_read(&marked[0..table.len()], q, 1)
 }

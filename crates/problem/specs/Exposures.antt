@@ -1,5 +1,5 @@
 -- What an arc or a route is exposed to, its risks and its spans; what two of them have in common, and how many that is. But for the reply's field of shared risks and
--- its count of shared spans, nothing but this file and its laws (proofs/ExposureLaws.antt) knows how many of these there can be, or that they are the bits of numbers.
+-- its count of shared spans, no other definition of the problem knows how many of these there can be, or that they are the bits of numbers; what is proved of it is in proofs/ExposureLaws.antt.
 -- Spans are known by their first arcs, counted from 1 (Spans.antt): span s is bit s - 1, the first 64 in the field `low`, the next 64 in the field `high`. Assumes nothing.
 use Prim.Native.Nat.{ℕ, _+_, _-_, _/_, _%_, _^_}
 use mathlib.Core.Bool.{Bool, _&&_}

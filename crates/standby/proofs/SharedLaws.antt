@@ -2,7 +2,7 @@
 use mathlib.Core.Path.{_≡_, ap, _∙_}
 use Prim.Native.Nat.{ℕ, _+_, _≤_}
 use native.Mathlib.Omega.{arith}
-use lib.Bits.{bitAnd, bitOr, and-zero-r, or-zero-r}
+use lib.Bits.{bitAnd, bitOr, and-zero-r}
 use lib.Count.{onesIn}
 use Rattle.laws.proofs.SetLaws.{ones-empty}
 use Rattle.problem.specs.declared.Exposure.{Exposure}
@@ -43,10 +43,3 @@ module _ (main before own : Exposure) where
   pub newly-fields : {risks low high : ℕ} → More (main .risks) (before .risks) (own .risks) risks → More (main .low) (before .low) (own .low) low
       → More (main .high) (before .high) (own .high) high → NewlyShared main before own (risks + low + high)
   newly-fields r l h = record { is = omega (arith, r .0, l .0, h .0, sharing-by-field main before, with-own); most = omega (arith, r .1, l .1, h .1) }
-
-  -- an arc that has no span
-  pub newly-risks : {risks : ℕ} → own .low ≡ 0 → own .high ≡ 0 → More (main .risks) (before .risks) (own .risks) risks → NewlyShared main before own risks
-  newly-risks low high r = record { is = omega (arith, r .0, same (main .low) (before .low) low, same (main .high) (before .high) high, sharing-by-field main before, with-own); most = omega (arith, r .1) }
-    where
-      same : (x y : ℕ) {z : ℕ} → z ≡ 0 → both x (bitOr y z) ≡ both x y
-      same x y e = ap (λ (s : ℕ). both x (bitOr y s)) e ∙ ap (both x) (or-zero-r y)

@@ -19,7 +19,7 @@ ghost use Rattle.standby.specs.Labels.{workAt, labelWords, Known, Shorte
 const MOST_SHARED: u64 = problem::HAZARDS as u64;
 
 // An arc looked at.
-enum Hop {
+pub enum Hop {
     // No standby over it is better.
     Passed,
     // It ends a better standby, of this key.
@@ -60,21 +60,21 @@ pub fn door(net: &[u64], main: Exposure) -> u64
 }
 
 // A main in words, so that one reference is handed on from call to call: what it is exposed to, and the fewest that it shares with a door.
-const MAIN_WORDS: usize = 4;
+pub const MAIN_WORDS: usize = 4;
 
-const RISKS: usize = 0;
+pub const RISKS: usize = 0;
 
 const LOW: usize = 1;
 
 const HIGH: usize = 2;
 
-const DOOR: usize = 3;
+pub const DOOR: usize = 3;
 
-// The spans that lie behind a search, low and high: by reference, since they are handed on as they are where there are none.
+// The spans that lie behind a search, low and high, handed on by reference.
 const SPAN_WORDS: usize = 2;
 
 // What the main is exposed to.
-fn main_exposure(main: &[u64; MAIN_WORDS]) -> Exposure
+pub fn main_exposure(main: &[u64; MAIN_WORDS]) -> Exposure
     ensures { λ r. ⌜ r ≡ mainIn (now (main .entry)) ⌝ }
 {
     Exposure {
@@ -96,9 +96,6 @@ fn newly_shared(
     ensures { λ r. ⌜ NewlyShared (mainIn (now (main .entry))) (exposedTo risks (now (spans .entry))) (ofArc (arcAt (arcsIn (now (net .entry))) i)) r ⌝ }
 {
     let new = exposure::newly(main[RISKS], risks, net::risks(net, i));
-    if net::spanned(net) == 0 {
-        return new;
-    }
     let low = exposure::newly(main[LOW], spans[0], net::low(net, i));
     let high = exposure::newly(main[HIGH], spans[1], net::high(net, i));
     new + low + high
@@ -192,7 +189,7 @@ pub fn clear(store: &mut [u64])
 }
 
 // Whether the label of a node is as good as this: what goes on from there was looked at with no more behind it.
-fn known(store: &[u64], v: u64, metres: u64, exposure: Exposure) -> bool
+pub fn known(store: &[u64], v: u64, metres: u64, exposure: Exposure) -> bool
     requires { ⌜ (labelWords ≤ length (now store)) × (v ≤ lastNode) ⌝ }
     ensures { λ r. ⌜ (r ≡ true → Known (now (store .entry)) v metres exposure) ⌝ }
 {
@@ -260,34 +257,19 @@ fn seek(
             }
             Hop::Leads(head, on, more) => {
                 if !known(store, head, on.metres, on.exposure) {
-                    if net::spanned(net) == 0 {
-                        least = seek(
-                            net,
-                            store,
-                            main,
-                            head,
-                            on.met,
-                            on.metres,
-                            on.exposure.risks,
-                            spans,
-                            more,
-                            least,
-                        );
-                    } else {
-                        let ahead = [on.exposure.low, on.exposure.high];
-                        least = seek(
-                            net,
-                            store,
-                            main,
-                            head,
-                            on.met,
-                            on.metres,
-                            on.exposure.risks,
-                            &ahead,
-                            more,
-                            least,
-                        );
-                    }
+                    let ahead = [on.exposure.low, on.exposure.high];
+                    least = seek(
+                        net,
+                        store,
+                        main,
+                        head,
+                        on.met,
+                        on.metres,
+                        on.exposure.risks,
+                        &ahead,
+                        more,
+                        least,
+                    );
                 }
             }
         }

@@ -1,16 +1,12 @@
 -- `exposure::is_nothing` meets its contract: what has no bit in the three fields together has none in each. Assumes nothing.
 use mathlib.Core.Path.{_≡_, ap}
-use Prim.Native.Nat.{ℕ}
-use native.Mathlib.Omega.{arith}
 use borrow.Author.Tests.{eqb-true, eq-eqb}
-use lib.Bits.{bitOr, and-le-l, and-le-r, or-add-and}
+use lib.Bits.{bitOr}
+use Rattle.laws.proofs.SetLaws.{or-none}
 use Rattle.problem.specs.declared.Exposure.{Exposure}
 use Rattle.problem.specs.Exposures.{toNothing}
 use Rattle.exposure.proofs.is_nothing.Statement.{statement}
 use Rattle.exposure.proofs.is_nothing.Tie as tie
-
-or-none : (x y : ℕ) → bitOr x y ≡ 0 → (x ≡ 0) × (y ≡ 0)
-or-none x y e = (omega (arith, or-add-and x y, and-le-l x y, and-le-r x y), omega (arith, or-add-and x y, and-le-l x y, and-le-r x y))
 
 none : (e : Exposure) → bitOr (bitOr (e .risks) (e .low)) (e .high) ≡ 0 → e ≡ toNothing
 unfolding toNothing

@@ -11,19 +11,18 @@ chained-requires : tie.Need-chained-requires
 chained-requires c κs =
     let s = c .before .before in
     let t = s .args .table .now in
-    record { few = omega (arith, arcs-length t, s .pre .0 .few-bytes); tails = λ k h. sound-at (arcsOf t) (s .pre .0 .sound) k h .tail-node }
+    record { few = omega (arith, arcs-length t, s .pre .0 .0 .few-bytes); tails = λ k h. sound-at (arcsOf t) (s .pre .0 .0 .sound) k h .tail-node }
 
 returns : tie.Need-returns
 returns c =
     let request = c .before .before in
-    let spans = request .before .before .before .before .before .before in
-    let doors = spans .before .before .before in
+    let doors = request .before .before .before .before .before .before .before .before in
     let nodes = doors .before .before .before .before in
     let arcs = nodes .before .before .before .before .before in
     let chained = arcs .before .before .before in
     let s = chained .before .before .before in
-    laid-out (s .pre .0) (s .pre .1 .0) (chained .chained .ensures) (s .pre .1 .1) (arcs .lay-arcs .ensures) (nodes .lay-nodes .ensures) (doors .lay-doors .ensures)
-    (spans .spanned .ensures .0) (rw (arcs-length (s .args .table .now)) (request .spread .ensures))
+    laid-out (s .pre .0 .0) (s .pre .1 .0) (chained .chained .ensures) (s .pre .1 .1) (arcs .lay-arcs .ensures) (nodes .lay-nodes .ensures) (doors .lay-doors .ensures)
+    (s .pre .0 .1) (rw (arcs-length (s .args .table .now)) (request .spread .ensures))
 
 pub lay-out-spec : {M : Type 1} → statement M
 lay-out-spec =
@@ -33,7 +32,6 @@ lay-out-spec =
     (search needs)
     (λ c κs. search needs)
     (search needs)
-    (λ c κs. search needs)
     (λ c κs. search needs)
     (λ c κs. search needs)
     (λ c. search needs)

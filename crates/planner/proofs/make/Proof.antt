@@ -13,7 +13,7 @@ plan-requires c κs =
     let common = sized .before in
     let start = common .before .before .before in (
       laid .lay-out .ensures .words,
-      planning (start .pre .0) (laid .lay-out .ensures) (start .pre .1 .1) (floor-counted (start .pre .0) (common .common-exposure .ensures) (sized .size .ensures .0)),
+      planning (start .pre .0 .0) (laid .lay-out .ensures) (start .pre .1 .1) (floor-counted (start .pre .0 .0) (common .common-exposure .ensures) (sized .size .ensures .0)),
       stored-none _ _ refl refl,
     )
 
@@ -23,7 +23,7 @@ returns c =
     let sized = laid .before .before in
     let common = sized .before in
     let start = common .before .before .before in
-    made-planned (start .pre .0) (laid .lay-out .ensures) (start .pre .1 .1) (floor-counted (start .pre .0) (common .common-exposure .ensures) (sized .size .ensures .0)) (c .choose .ensures)
+    made-planned (start .pre .0 .0) (laid .lay-out .ensures) (start .pre .1 .1) (floor-counted (start .pre .0 .0) (common .common-exposure .ensures) (sized .size .ensures .0)) (c .choose .ensures)
 
 pub make-spec : {M : Type 1} → statement M
 make-spec =

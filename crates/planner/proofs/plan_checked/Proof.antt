@@ -4,6 +4,7 @@ use mathlib.Core.List.{List}
 use Prim.Native.Nat.{ℕ, _-_}
 use borrow.Author.Needs.{needs}
 use borrow.Author.Tests.{not-true}
+use native.Mathlib.Omega.{arith}
 use lib.ListN.{length, take, drop}
 use Rattle.spans.specs.Marks.{markedTable}
 use Rattle.planner.proofs.PlannerLaws.{planned-unspanned, checked-marked, planned-marked, part-marked}
@@ -22,10 +23,13 @@ part-is c =
     let s = c .before .before .before .before .before in
     ap (λ (l : List ℕ). take (length (s .args .table .now) - 0) (drop 0 l)) (c .put-all .ensures) ∙ part-marked (s .pre) _
 
-plan-read-requires : tie.Need-plan-read-requires-2
-plan-read-requires c κs =
+plan-read-requires : tie.Need-plan-read-requires
+plan-read-requires c κs = (c .before .before .before .pre, λ e. c .before .any .ensures .1 (not-true _ (c .if1 .taken)))
+
+plan-read-requires-2 : tie.Need-plan-read-requires-2
+plan-read-requires-2 c κs =
     let put = c .before .before .before in
-    rw (part-is put) (checked-marked (put .before .before .before .before .before .pre))
+    (rw (part-is put) (checked-marked (put .before .before .before .before .before .pre)), λ e. absurd (omega (arith, e)))
 
 returns : tie.Need-returns-2
 returns c =
@@ -38,12 +42,12 @@ plan-checked-spec =
     tie.close
     (tie.spec
     (λ c κs. search needs)
-    (λ c κs. search needs)
+    plan-read-requires
     unspanned
     (λ c. search needs)
     (λ c κs. search needs)
     (λ c. search needs)
     (λ c. search needs)
     (λ c. search needs)
-    plan-read-requires
+    plan-read-requires-2
     returns)

@@ -16,18 +16,19 @@ plain c = rw (c .before .nothing .ensures) at (c .side-table .ensures)
 returns : tie.Need-returns
 returns c =
     let tabled = c .before .before .before .before .before in
-    none-planned (tabled .before .before .before .before .pre) (plain tabled) (c .nothing2 .ensures) (inl (not-true _ (c .before .if1 .taken)))
+    none-planned (tabled .before .before .before .before .pre .0) (plain tabled) (c .nothing2 .ensures) (inl (not-true _ (c .before .if1 .taken)))
 
 returns-2 : tie.Need-returns-2
 returns-2 c =
     let tabled = c .before .before .before .before .before .before .before .before in
-    none-planned (tabled .before .before .before .before .pre) (plain tabled) (c .nothing3 .ensures) (inr (c .before .if2 .taken))
+    none-planned (tabled .before .before .before .before .pre .0) (plain tabled) (c .nothing3 .ensures) (inr (c .before .if2 .taken))
 
 make-requires : tie.Need-make-requires
 make-requires c κs =
     let tabled = c .before .before .before .before .before .before .before in
-    let checked = tabled .before .before .before .before .pre in
-    (checked, (plain tabled, some-routes checked (plain tabled) (not-false _ (c .before .before .before .if1 .left)) (c .if2 .left)))
+    let asked = tabled .before .before .before .before .pre in
+    let checked = asked .0 in
+    (asked, (plain tabled, some-routes checked (plain tabled) (not-false _ (c .before .before .before .if1 .left)) (c .if2 .left)))
 
 pub plan-read-spec : {M : Type 1} → statement M
 plan-read-spec =

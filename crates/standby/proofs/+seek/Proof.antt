@@ -1,17 +1,17 @@
 -- `standby::seek` meets its contract. The invariant: the search stands at an arc of the node's chain; what is left from there on is no less than what is wanted; and
 -- as far as the labels found and the nodes behind are true, nothing over the arcs passed makes a key below the least so far, and the labels now are true (`Going`).
 -- The loop's measure is the arcs ahead, the recursion's the nodes not met: each arc leaves one node fewer unvisited. Assumes nothing.
-use mathlib.Core.Path.{_≡_, sym, ap, ap₂, _∙_}
+use mathlib.Core.Path.{_≡_, sym, ap₂, _∙_}
 use native.Mathlib.Omega.{arith}
 use lib.ListN.{length}
 use Rattle.laws.specs.Sets.{unmet}
-use Rattle.problem.specs.Exposures.{common, sharing}
+use Rattle.problem.specs.Exposures.{common}
 use Rattle.net.specs.declared.Behind.{Behind}
-use Rattle.net.specs.Net.{spannedAt, wordAt, arcsIn}
+use Rattle.net.specs.Net.{arcsIn}
 use Rattle.net.specs.Search.{behind}
 use Rattle.standby.specs.Standby.{mainIn, doorOf, exposedTo}
 use Rattle.standby.specs.Labels.{labelWords}
-use Rattle.standby.proofs.SeekLaws.{Going, InHand, going-start, going-end, arc-past, going-past, going-ends, Onto, going-leads, same-spans}
+use Rattle.standby.proofs.SeekLaws.{Going, InHand, going-start, going-end, arc-past, going-past, going-ends, Onto, going-leads}
 use Prim.Native.Nat.{ℕ, _-_, _≤_, _<_}
 use borrow.Author.Needs.{needs}
 use borrow.Author.Tests.{not-false}
@@ -24,7 +24,6 @@ use Rattle.exposure.proofs.common.Reads as common-reads
 use Rattle.net.proofs.arc_count.Reads as arc-count-reads
 use Rattle.net.proofs.first.Reads as first-reads
 use Rattle.net.proofs.next.Reads as next-reads
-use Rattle.net.proofs.spanned.Reads as spanned-reads
 use Rattle.standby.proofs.exposed.Reads as exposed-reads
 use Rattle.standby.proofs.keep.Reads as keep-reads
 use Rattle.standby.proofs.known.Reads as known-reads
@@ -54,8 +53,6 @@ called t = (
   look-reads.Learnt,
   known-reads.Asked,
   known-reads.Learnt,
-  spanned-reads.Asked,
-  spanned-reads.Learnt,
   seek-below t,
   seek.Post,
   main-exposure-reads.Asked,
@@ -170,60 +167,28 @@ leads t h = let k = looked t h in going-leads _ _ _ _ (in-hand t k) (sym (k .loo
 known-requires : (t : ℕ) → seek-lts.Need-known-requires (called t) (seek-at t) seek.Post Inv μ
 known-requires t c κs = let h = c .before .before .before in (long t (standing t (looked t h)), leads t h .seeking .node)
 
-spanned-requires : (t : ℕ) → seek-lts.Need-spanned-requires (called t) (seek-at t) seek.Post Inv μ
-spanned-requires t c κs = start t (standing t (c .before .before .before .before .before .before .before .before)) .pre .1 .0 .words
-
--- where the net has no spans, the spans behind are as they were
-plain : (t : ℕ) (h : Led t) → let l = standing t (looked t h) in let a = start t l .args in let on = h .head .given .0 .1 .0 .exposure in
-    (s : ℕ) → s ≡ wordAt (a .net .now) spannedAt → s ≡ 0 → on ≡ exposedTo (on .risks) (a .spans .now)
-plain t h s e z =
-    let k = looked t h in
-    let l = standing t k in
-    let own = start t l .pre .1 .0 .words .plain (sym e ∙ z) (l .loop .i) (in-hand t k .inside) in
-    same-spans _ (passed t l .exposure) _ (ap (λ (b : Behind). b .exposure) (leads t h .is)) (own .0) (own .1)
-
 seek-requires : (t : ℕ) → seek-lts.Need-seek-requires (called t) (seek-at t) seek.Post Inv μ
 seek-requires t c κs =
-    let h = c .before .before .before .before .before .before .before .before .before in
-    let k = looked t h in
-    let l = standing t k in
-    let o = leads t h in
-    (omega (arith, start t l .pre .0, o .fewer-nodes), (o .seeking, long t l, o .shared-is ∙ ap (sharing (mainIn (start t l .args .main .now))) (plain t h _ (c .before .before .spanned .ensures) (c .before .if2 .taken))))
-
-loop-less-3 : (t : ℕ) → seek-lts.Need-loop-less-3 (called t) (seek-at t) seek.Post Inv μ
-loop-less-3 t c = fewer-ahead t (c .before .before .before .before .before .before .before .before .before .before .before .before)
-
-loop-again-3 : (t : ℕ) → seek-lts.Need-loop-again-3 (called t) (seek-at t) seek.Post Inv μ
-loop-again-3 t c =
-    let h = c .before .before .before .before .before .before .before .before .before .before in
-    let k = looked t h in
-    let l = standing t k in
-    let on = h .head .given .0 .1 .0 in
-    let same = plain t h _ (c .before .before .before .spanned .ensures) (c .before .before .if2 .taken) in
-    (l .loop .inv .0, rw (k .before .before .next .ensures) (leads t h .gives _ _ (rw (← same) at (c .seek .ensures))))
-
-seek-requires-2 : (t : ℕ) → seek-lts.Need-seek-requires-2 (called t) (seek-at t) seek.Post Inv μ
-seek-requires-2 t c κs =
-    let h = c .before .before .before .before .before .before .before .before .before .before in
+    let h = c .before .before .before .before .before .before .before in
     let l = standing t (looked t h) in
     let o = leads t h in
     (omega (arith, start t l .pre .0, o .fewer-nodes), (o .seeking, long t l, o .shared-is))
 
+loop-less-3 : (t : ℕ) → seek-lts.Need-loop-less-3 (called t) (seek-at t) seek.Post Inv μ
+loop-less-3 t c = fewer-ahead t (looked t (c .before .before .before .before .before .before .before .before))
+
+loop-again-3 : (t : ℕ) → seek-lts.Need-loop-again-3 (called t) (seek-at t) seek.Post Inv μ
+loop-again-3 t c =
+    let h = c .before .before .before .before .before .before .before .before in
+    let k = looked t h in
+    let l = standing t k in
+    (l .loop .inv .0, rw (k .before .before .next .ensures) (leads t h .gives _ _ (c .seek .ensures)))
+
 loop-less-4 : (t : ℕ) → seek-lts.Need-loop-less-4 (called t) (seek-at t) seek.Post Inv μ
-loop-less-4 t c = fewer-ahead t (c .before .before .before .before .before .before .before .before .before .before .before .before .before)
+loop-less-4 t c = fewer-ahead t (looked t (c .before .before .before .before .before))
 
 loop-again-4 : (t : ℕ) → seek-lts.Need-loop-again-4 (called t) (seek-at t) seek.Post Inv μ
 loop-again-4 t c =
-    let h = c .before .before .before .before .before .before .before .before .before .before .before in
-    let k = looked t h in
-    let l = standing t k in
-    (l .loop .inv .0, rw (k .before .before .next .ensures) (leads t h .gives _ _ (c .seek2 .ensures)))
-
-loop-less-5 : (t : ℕ) → seek-lts.Need-loop-less-5 (called t) (seek-at t) seek.Post Inv μ
-loop-less-5 t c = fewer-ahead t (c .before .before .before .before .before .before .before)
-
-loop-again-5 : (t : ℕ) → seek-lts.Need-loop-again-5 (called t) (seek-at t) seek.Post Inv μ
-loop-again-5 t c =
     let h = c .before .before .before .before .before in
     let k = looked t h in
     let l = standing t k in
@@ -262,15 +227,11 @@ pub +seek-spec : {M : Type 1} → statement M
     (loop-again-2 t)
     (enum-known-head t)
     (known-requires t)
-    (spanned-requires t)
     (seek-requires t)
     (loop-less-3 t)
     (loop-again-3 t)
-    (seek-requires-2 t)
     (loop-less-4 t)
     (loop-again-4 t)
-    (loop-less-5 t)
-    (loop-again-5 t)
     (λ c κs. search needs)
     (λ c κs. search needs)
     (λ c κs. search needs)
