@@ -11,7 +11,7 @@ use Rattle.exposure.specs.Parts.{inside}
 use Rattle.exposure.specs.Words.{exposureWords, exposureAt}
 use Rattle.net.specs.Net.{wordAt, meshIn}
 use Rattle.standby.specs.Ahead.{quest, NoneBelow}
-use Rattle.standby.specs.Labels.{labelWords}
+use Rattle.labels.specs.Labels.{labelWords}
 
 -- how many cores there are; what is counted so as to know when to learn one; then the cores, each an exposure, nodes and a bound
 abbrev pub coreCountAt : ℕ

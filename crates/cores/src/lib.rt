@@ -12,11 +12,11 @@ ghost use Rattle.standby.specs.Ahead.{quest, NoneBelow, leastOf};
 ghost use Rattle.cores.specs.Cores.{coresFrom, coreWords, mostWords, placeOf, Sized, Stored, Covers, Covered, CoresKept, Placed, CorePut, Remembers};
 
 // The words of the planner's own store.
-pub const OWN_WORDS: usize = standby::STORE_WORDS;
+pub const OWN_WORDS: usize = labels::STORE_WORDS;
 
 // Behind the labels: how many cores there are; how many long searches were made, and how many nodes they went on from; how many nodes those went on from that
 // made cores smaller; then the cores, each an exposure, nodes and a bound.
-const CORE_COUNT: usize = standby::LABEL_WORDS;
+const CORE_COUNT: usize = labels::LABEL_WORDS;
 
 const SEARCHES: usize = CORE_COUNT + 1;
 
@@ -80,7 +80,7 @@ fn is_due(store: &mut [u64]) -> bool
     requires { ⌜ coresFrom ≤ length (now store) ⌝ }
     ensures { λ _. ⌜ CoresKept (now (store .entry)) (now (store .exit)) ⌝ }
 {
-    let work = standby::work(store);
+    let work = labels::work(store);
     if work < LONG {
         return false;
     }
@@ -99,7 +99,7 @@ fn spend(store: &mut [u64])
     requires { ⌜ coresFrom ≤ length (now store) ⌝ }
     ensures { λ _. ⌜ CoresKept (now (store .entry)) (now (store .exit)) ⌝ }
 {
-    let work = standby::work(store);
+    let work = labels::work(store);
     store[SPENT] = laws::sum_up_to(store[SPENT], work, MOST_COUNTED);
 }
 

@@ -29,7 +29,7 @@ use Rattle.net.proofs.NetLaws.{left-next}
 use Rattle.track.specs.declared.Track.{Track}
 use Rattle.track.specs.Track.{routeIn, Fit, Holds, onward}
 use Rattle.track.proofs.FitLaws.{fit-count}
-use Rattle.standby.specs.Labels.{Shorter}
+use Rattle.labels.specs.Labels.{Shorter}
 use Rattle.look.specs.declared.Leg.the-variants.{Met, Past, Ends, Leads}
 use Rattle.look.specs.Look.{legAt}
 use Rattle.look.proofs.LookLaws.{met-is, past-is, ends-is, leads-is, Leading}

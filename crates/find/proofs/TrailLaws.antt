@@ -21,7 +21,7 @@ use Rattle.exposure.proofs.WordLaws.{inside-at}
 use Rattle.keys.specs.Keys.{standbyKey}
 use Rattle.net.specs.Net.{wordAt}
 use Rattle.standby.specs.Ahead.{Avoids}
-use Rattle.standby.specs.Labels.{labelledAt, labelMetres, labelExposure, Shorter, Cleared, Labelled}
+use Rattle.labels.specs.Labels.{labelledAt, labelMetres, labelExposure, Shorter, Cleared, Labelled}
 use Rattle.cores.specs.Cores.{Stored}
 use Rattle.cores.proofs.CoreLaws.{frame-kept, stored-kept}
 use Rattle.find.specs.declared.Want.{Want}

@@ -17,7 +17,7 @@ use Rattle.keys.specs.Keys.{standbyKey, noStandby}
 use Rattle.net.specs.Net.{wordAt, meshIn, Net}
 use Rattle.standby.specs.Standby.{leastKey}
 use Rattle.standby.specs.Ahead.{quest, NoneBelow}
-use Rattle.standby.specs.Labels.{labelledAt, labelMetres, labelExposure, Labelled}
+use Rattle.labels.specs.Labels.{labelledAt, labelMetres, labelExposure, Labelled}
 use Rattle.track.specs.declared.Track.{Track}
 use Rattle.track.specs.Track.{routeIn, Fit, onward}
 use Rattle.find.specs.declared.Want.{Want}

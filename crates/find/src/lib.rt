@@ -10,7 +10,7 @@ ghost use lib.ListN.{length};
 ghost use Rattle.problem.specs.Table.{lastNode, mostArcs, mostReach, mostAllowance};
 ghost use Rattle.problem.specs.Routes.{arcAt};
 ghost use Rattle.net.specs.Net.{Net, arcsIn, meshIn};
-ghost use Rattle.standby.specs.Labels.{labelWords, Shorter};
+ghost use Rattle.labels.specs.Labels.{labelWords, Shorter};
 ghost use Rattle.cores.specs.Cores.{Stored};
 ghost use Rattle.track.specs.Track.{routeIn, Fit, Holds};
 ghost use Rattle.find.specs.Find.{isWanted, sharesTooMuch, InRange, Sure, soughtIn, overArc, meet, soughtOn, OutcomeOverAll, Trails, Arrived, Finding};
@@ -77,10 +77,10 @@ fn comes_late(
     if want.as_main {
         return false;
     }
-    if standby::shorter_known(store, v, metres, e) {
+    if labels::shorter_known(store, v, metres, e) {
         return true;
     }
-    standby::keep(store, v, metres, exposure::common(want.main, e));
+    labels::keep(store, v, metres, exposure::common(want.main, e));
     false
 }
 
@@ -192,7 +192,7 @@ pub fn first_route(net: &[u64; net::SIZE], store: &mut [u64; cores::OWN_WORDS], 
     ensures first { λ r. ⌜ (Sure (meshIn (now (net .entry))) want → OutcomeOverAll (meshIn (now (net .entry))) want (soughtIn r)) ⌝ }
     ensures stored { λ _. ⌜ Stored (now (net .entry)) (now (store .exit)) ⌝ }
 {
-    standby::clear(store);
+    labels::clear(store);
     let source = net::source(net);
     let met = sets::with(0, source as u8);
     let t = track::empty();

@@ -1,12 +1,12 @@
 // The best standby of a main. Where no arc has a span, risks alone are counted and handed on, which is quicker; all else is as in `standby`, whose search is asked
 // where there are spans.
+use labels::STORE_WORDS;
 use net::Behind;
 use problem::Exposure;
 use standby::DOOR;
 use standby::Hop;
 use standby::MAIN_WORDS;
 use standby::RISKS;
-use standby::STORE_WORDS;
 ghost use Prim.Native.Nat.{_≤_, _<_};
 ghost use mathlib.Core.Path.{_≡_};
 ghost use lib.ListN.{length};
@@ -15,7 +15,8 @@ ghost use Rattle.net.specs.Net.{arcsIn, meshIn, Net};
 ghost use Rattle.net.specs.Search.{behind};
 ghost use Rattle.standby.specs.Standby.{EveryDoor, mainIn, doorOf, hopAt, Seeking};
 ghost use Rattle.standby.specs.Ahead.{quest, NoneBelow, leastOf};
-ghost use Rattle.standby.specs.Labels.{labelWords, Frame, Sought};
+ghost use Rattle.labels.specs.Labels.{labelWords, Frame};
+ghost use Rattle.standby.specs.Sought.{Sought};
 ghost use Rattle.plain.specs.Plain.{byRisks, Plain};
 
 // Exposed to these risks alone.
@@ -93,7 +94,7 @@ fn seek(
                 least = key;
             }
             Hop::Leads(head, on, _) => {
-                if !standby::known(store, head, on.metres, on.exposure) {
+                if !labels::known(store, head, on.metres, on.exposure) {
                     least = seek(
                         net,
                         store,
@@ -108,7 +109,7 @@ fn seek(
             }
         }
     }
-    standby::keep(
+    labels::keep(
         store,
         at,
         metres,
@@ -134,7 +135,7 @@ pub fn search(
     if 0 < net::spanned(net) {
         return standby::search(net, store, main, door, nodes, bound);
     }
-    standby::clear(store);
+    labels::clear(store);
     let source = net::source(net);
     let met = sets::with(nodes, source as u8);
     let words = [main.risks, main.low, main.high, door];

@@ -18,6 +18,7 @@ use Rattle.problem.proofs.ExposureLaws.{Inside, exposed-common, exposed-joined,
 use Rattle.problem.proofs.GrowthLaws.{leftFrom}
 use Rattle.exposure.proofs.WordLaws.{joined-by-field}
 use Rattle.keys.specs.Keys.{standbyKey}
+use Rattle.labels.specs.Labels.{Known, Frame, Cleared, Labelled}
 use Rattle.net.specs.declared.Behind.{Behind}
 use Rattle.net.specs.Net.{nextFrom, firstFrom, lowerFrom, wordAt, arcsIn, meshIn, Net}
 use Rattle.net.specs.Search.{behind, onto, onward, searched}
@@ -25,7 +26,7 @@ use Rattle.net.proofs.SearchLaws.{Left, listFrom, over, Place, place-first, pla
 use Rattle.standby.specs.declared.Hop.the-variants.{Passed, Ends, Leads}
 use Rattle.standby.specs.Standby.{offered, EveryDoor, keyOver, hopAt, Seeking}
 use Rattle.standby.specs.Ahead.{Quest, quest, Ahead, NoneBelow, leastOf}
-use Rattle.standby.specs.Labels.{Labels, Known, Frame, Cleared, Labelled, Back, Sought}
+use Rattle.standby.specs.Sought.{Labels, Back, Sought}
 use Rattle.standby.proofs.DoorLaws.{way-door, shared-ahead, shared-door}
 use Rattle.standby.proofs.HopLaws.{Skips, passed-is, Ending, ends-is, Leading, leads-is}
 use Rattle.standby.proofs.OfferLaws.{offer-far, offer-no-better, offer-ends}

@@ -1,3 +1,3 @@
 pub mod Standby
 pub mod Ahead
-pub mod Labels
+pub mod Sought

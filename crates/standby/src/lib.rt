@@ -1,19 +1,20 @@
 // The best standby of a main: the least key, shared count before metres, of all routes, found by a search that leaves out what cannot be better: by the doors, by
 // the lower bounds, and by labels that it leaves at the nodes it has gone on from.
+use labels::STORE_WORDS;
 use net::Behind;
 use problem::Exposure;
 ghost use mathlib.Core.Path.{_≡_};
-ghost use mathlib.Core.Bool.{true};
 ghost use Prim.Native.Nat.{_<_, _≤_};
 ghost use lib.ListN.{length};
-ghost use Rattle.problem.specs.Table.{lastNode, hazards, mostReach};
+ghost use Rattle.problem.specs.Table.{hazards, mostReach};
 ghost use Rattle.problem.specs.Exposures.{ofArc, sharing};
 ghost use Rattle.problem.specs.Routes.{arcAt};
-ghost use Rattle.net.specs.Net.{Net, arcsIn, meshIn, wordAt};
+ghost use Rattle.net.specs.Net.{Net, arcsIn, meshIn};
 ghost use Rattle.net.specs.Search.{behind};
+ghost use Rattle.labels.specs.Labels.{labelWords, Frame};
 ghost use Rattle.standby.specs.Standby.{EveryDoor, mainIn, doorOf, exposedTo, NewlyShared, hopAt, Seeking};
 ghost use Rattle.standby.specs.Ahead.{quest, NoneBelow, leastOf};
-ghost use Rattle.standby.specs.Labels.{workAt, labelWords, Known, Shorter, Frame, Cleared, Labelled, Sought};
+ghost use Rattle.standby.specs.Sought.{Sought};
 
 // No two share more.
 const MOST_SHARED: u64 = problem::HAZARDS as u64;
@@ -154,79 +155,6 @@ fn look(
     Hop::Leads(head, on, more)
 }
 
-// Where the words of the labels begin: the set of nodes that have one, the nodes gone on from, then the metres and what they are exposed to, node by node.
-const LABELLED: usize = 0;
-
-const WORK: usize = 1;
-
-const METRES_FROM: usize = 2;
-
-const EXPOSURES_FROM: usize = METRES_FROM + problem::NODES;
-
-pub const LABEL_WORDS: usize = EXPOSURES_FROM + problem::NODES * exposure::WORDS;
-
-// How many words a store has: the labels, and what its owner keeps behind them.
-pub const STORE_WORDS: usize = 256;
-
-// More work than this is not counted.
-const MOST_WORK: u64 = 4294967296;
-
-// How many nodes the last search has gone on from.
-pub fn work(store: &[u64]) -> u64
-    requires { ⌜ labelWords ≤ length (now store) ⌝ }
-    ensures { λ r. ⌜ r ≡ wordAt (now (store .entry)) workAt ⌝ }
-{
-    store[WORK]
-}
-
-// Takes all labels away.
-pub fn clear(store: &mut [u64])
-    requires { ⌜ labelWords ≤ length (now store) ⌝ }
-    ensures { λ _. ⌜ Cleared (now (store .entry)) (now (store .exit)) ⌝ }
-{
-    store[LABELLED] = 0;
-    store[WORK] = 0;
-}
-
-// Whether the label of a node is as good as this: what goes on from there was looked at with no more behind it.
-pub fn known(store: &[u64], v: u64, metres: u64, exposure: Exposure) -> bool
-    requires { ⌜ (labelWords ≤ length (now store)) × (v ≤ lastNode) ⌝ }
-    ensures { λ r. ⌜ (r ≡ true → Known (now (store .entry)) v metres exposure) ⌝ }
-{
-    if !sets::has(store[LABELLED], v as u8) {
-        return false;
-    }
-    let node = v as usize;
-    if metres < store[METRES_FROM + node] {
-        return false;
-    }
-    let label = exposure::read(store, EXPOSURES_FROM + node * exposure::WORDS);
-    exposure::is_inside(label, exposure)
-}
-
-// Whether the label of a node is shorter than this and exposed to no more.
-pub fn shorter_known(store: &[u64], v: u64, metres: u64, exposure: Exposure) -> bool
-    requires { ⌜ (labelWords ≤ length (now store)) × (v ≤ lastNode) ⌝ }
-    ensures { λ r. ⌜ (r ≡ true → Shorter (now (store .entry)) v metres exposure) ⌝ }
-{
-    if metres == 0 {
-        return false;
-    }
-    known(store, v, metres - 1, exposure)
-}
-
-// Labels a node.
-pub fn keep(store: &mut [u64], v: u64, metres: u64, exposure: Exposure)
-    requires { ⌜ (labelWords ≤ length (now store)) × (v ≤ lastNode) ⌝ }
-    ensures { λ _. ⌜ Labelled v metres exposure (now (store .entry)) (now (store .exit)) ⌝ }
-{
-    let node = v as usize;
-    store[WORK] = laws::sum_up_to(store[WORK], 1, MOST_WORK);
-    store[LABELLED] = sets::with(store[LABELLED], v as u8);
-    store[METRES_FROM + node] = metres;
-    exposure::put(store, EXPOSURES_FROM + node * exposure::WORDS, exposure);
-}
-
 // The least of `bound` and the keys of the standbys that go on from `at` with so much behind them, but for those that a label or a node behind makes needless.
 fn seek(
     net: &[u64; net::SIZE],
@@ -256,7 +184,7 @@ fn seek(
                 least = key;
             }
             Hop::Leads(head, on, more) => {
-                if !known(store, head, on.metres, on.exposure) {
+                if !labels::known(store, head, on.metres, on.exposure) {
                     let ahead = [on.exposure.low, on.exposure.high];
                     least = seek(
                         net,
@@ -274,7 +202,7 @@ fn seek(
             }
         }
     }
-    keep(
+    labels::keep(
         store,
         at,
         metres,
@@ -297,7 +225,7 @@ pub fn search(
     ensures below { λ r. ⌜ NoneBelow (quest (meshIn (now (net .entry))) main nodes) r ⌝ }
     ensures frame { λ _. ⌜ Frame (now (store .entry)) (now (store .exit)) ⌝ }
 {
-    clear(store);
+    labels::clear(store);
     let source = net::source(net);
     let met = sets::with(nodes, source as u8);
     let words = [main.risks, main.low, main.high, door];

@@ -10,7 +10,7 @@ use Rattle.net.specs.declared.Behind.{Behind}
 use Rattle.net.specs.Net.{arcsIn}
 use Rattle.net.specs.Search.{behind}
 use Rattle.standby.specs.Standby.{mainIn, doorOf}
-use Rattle.standby.specs.Labels.{labelWords}
+use Rattle.labels.specs.Labels.{labelWords}
 use Rattle.plain.specs.Plain.{byRisks}
 use Rattle.standby.proofs.SeekLaws.{Going, InHand, going-start, going-end, arc-past, going-past, going-ends, Onto, going-leads, same-spans}
 use Prim.Native.Nat.{ℕ, _-_, _≤_, _<_}
@@ -25,8 +25,8 @@ use Rattle.exposure.proofs.common.Reads as common-reads
 use Rattle.net.proofs.arc_count.Reads as arc-count-reads
 use Rattle.net.proofs.first.Reads as first-reads
 use Rattle.net.proofs.next.Reads as next-reads
-use Rattle.standby.proofs.keep.Reads as keep-reads
-use Rattle.standby.proofs.known.Reads as known-reads
+use Rattle.labels.proofs.keep.Reads as keep-reads
+use Rattle.labels.proofs.known.Reads as known-reads
 use Rattle.standby.proofs.main_exposure.Reads as main-exposure-reads
 use Rattle.plain.proofs.by_risks.Reads as by-risks-reads
 use Rattle.plain.proofs.look.Reads as look-reads

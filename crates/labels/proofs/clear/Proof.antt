@@ -1,12 +1,12 @@
--- `standby::clear` meets its contract: two words are written, and the first of them says that no node has a label. Assumes nothing.
+-- `labels::clear` meets its contract: two words are written, and the first of them says that no node has a label. Assumes nothing.
 use mathlib.Core.Path.{_∙_}
 use native.Mathlib.Omega.{arith}
 use borrow.Author.Needs.{needs}
 use lib.ListN.{set, length-set}
 use lib.Seq.{getD-set-same, getD-set-other}
-use Rattle.standby.specs.Labels.{labelledAt, workAt}
-use Rattle.standby.proofs.clear.Statement.{statement}
-use Rattle.standby.proofs.clear.Tie as tie
+use Rattle.labels.specs.Labels.{labelledAt, workAt}
+use Rattle.labels.proofs.clear.Statement.{statement}
+use Rattle.labels.proofs.clear.Tie as tie
 
 second : tie.Need-slice-write-store-2
 second c = simp length-set (omega arith)

@@ -1,9 +1,9 @@
--- `standby::shorter_known` meets its contract: no longer than one metre less is shorter. Assumes nothing.
+-- `labels::shorter_known` meets its contract: no longer than one metre less is shorter. Assumes nothing.
 use mathlib.Core.Bool.{false≢true}
 use native.Mathlib.Omega.{arith}
 use borrow.Author.Needs.{needs}
-use Rattle.standby.proofs.shorter_known.Statement.{statement}
-use Rattle.standby.proofs.shorter_known.Tie as tie
+use Rattle.labels.proofs.shorter_known.Statement.{statement}
+use Rattle.labels.proofs.shorter_known.Tie as tie
 
 returns : tie.Need-returns
 returns c e = absurd (false≢true e)

@@ -1,11 +1,11 @@
--- `standby::keep` meets its contract: four writes, of which each but the first stands for one part of the label (`labelled-by`). Assumes nothing.
+-- `labels::keep` meets its contract: four writes, of which each but the first stands for one part of the label (`labelled-by`). Assumes nothing.
 use mathlib.Core.Path.{_∙_}
 use native.Mathlib.Omega.{arith}
 use borrow.Author.Needs.{needs}
 use lib.ListN.{length-set}
-use Rattle.standby.proofs.LabelLaws.{labelled-by}
-use Rattle.standby.proofs.keep.Statement.{statement}
-use Rattle.standby.proofs.keep.Tie as tie
+use Rattle.labels.proofs.LabelWords.{labelled-by}
+use Rattle.labels.proofs.keep.Statement.{statement}
+use Rattle.labels.proofs.keep.Tie as tie
 
 read-labelled : tie.Need-slice-read-with
 read-labelled c = simp length-set (omega arith)

@@ -1,11 +1,11 @@
--- `standby::known` meets its contract: where it says true, each test has told one field of `Known`. Assumes nothing.
+-- `labels::known` meets its contract: where it says true, each test has told one field of `Known`. Assumes nothing.
 use mathlib.Core.Path.{refl, sym, ap₂, _∙_}
 use mathlib.Core.Bool.{false≢true}
 use borrow.Author.Needs.{needs}
 use borrow.Author.Tests.{eqb-true, not-false}
 use Rattle.exposure.specs.Parts.{inside}
-use Rattle.standby.proofs.known.Statement.{statement}
-use Rattle.standby.proofs.known.Tie as tie
+use Rattle.labels.proofs.known.Statement.{statement}
+use Rattle.labels.proofs.known.Tie as tie
 
 returns : tie.Need-returns
 returns c e = absurd (false≢true e)
