@@ -8,7 +8,7 @@ use Rattle.laws.specs.Sets.{unmet}
 use Rattle.problem.specs.Table.{lastNode}
 use Rattle.problem.specs.Routes.{arcAt}
 use Rattle.net.specs.declared.Behind.{Behind}
-use Rattle.net.specs.Net.{firstFrom, nextFrom, lowerFrom, wordAt, arcsIn, meshIn, Net}
+use Rattle.net.specs.Net.{firstFrom, lowerFrom, wordAt, nextOf, arcsIn, meshIn, Net}
 use Rattle.net.proofs.SearchLaws.{Place, place-first, place-next, next-past, head-node, fewer}
 use Rattle.look.specs.declared.Leg.the-variants.{Leads}
 use Rattle.look.specs.Look.{legAt}
@@ -28,10 +28,10 @@ module _ (net : List ℕ) (words : Net net) (b : Behind) (at : ℕ) where
   stands-first node = place-first net idle b at words node
 
   module _ {i : ℕ} (stands : Stands net b at i) (inside : i < length (arcsIn net)) where
-    pub stands-next : Stands net b at (wordAt net (nextFrom + i))
+    pub stands-next : Stands net b at (nextOf net i)
     stands-next = place-next net idle b at words stands inside
 
-    pub next-further : i < wordAt net (nextFrom + i)
+    pub next-further : i < nextOf net i
     next-further = next-past net idle b at words stands inside
 
     -- from the head of an arc that leads on: one node fewer is left

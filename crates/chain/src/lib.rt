@@ -11,28 +11,22 @@ ghost use Rattle.chain.specs.Chain.{chainSize, firstIn, nextIn, Chain, C
 
 pub const SIZE: usize = NODES + MOST_IN_TABLE;
 
-fn wide(x: u8) -> usize
-    ensures { λ r. ⌜ r ≡ x ⌝ }
-{
-    x as usize
-}
-
 // The first arc that leaves v.
-pub fn first(chain: &[u8], v: u8) -> usize
+pub fn first(chain: &[u8], v: u8) -> u8
     requires { ⌜ (length (now chain) ≡ chainSize) × (v ≤ lastNode) ⌝ }
     ensures { λ r. ⌜ r ≡ firstIn (now (chain .entry)) v ⌝ }
 {
     let at = v as usize;
-    wide(chain[at])
+    chain[at]
 }
 
 // The next arc of the tail of arc i.
-pub fn next(chain: &[u8], i: usize) -> usize
+pub fn next(chain: &[u8], i: usize) -> u8
     requires { ⌜ (length (now chain) ≡ chainSize) × (i < mostInTable) ⌝ }
     ensures { λ r. ⌜ r ≡ nextIn (now (chain .entry)) i ⌝ }
 {
     let at = NODES + i;
-    wide(chain[at])
+    chain[at]
 }
 
 // The chain of a table, made from its last arc down: each arc comes before those of its tail.

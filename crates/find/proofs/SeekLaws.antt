@@ -23,7 +23,7 @@ use Rattle.chain.specs.Chain.{Next}
 use Rattle.keys.specs.Keys.{standbyKey}
 use Rattle.keys.proofs.BoundLaws.{standbyKey-mono}
 use Rattle.net.specs.declared.Behind.{Behind}
-use Rattle.net.specs.Net.{nextFrom, firstFrom, lowerFrom, wordAt, arcsIn, meshIn}
+use Rattle.net.specs.Net.{firstFrom, lowerFrom, wordAt, nextOf, arcsIn, meshIn}
 use Rattle.net.specs.Search.{behind, onto}
 use Rattle.net.proofs.NetLaws.{left-next}
 use Rattle.track.specs.declared.Track.{Track}
@@ -248,7 +248,7 @@ module _ (net : List ℕ) (w : Want) (at met : ℕ) (t : Track) where
 
     module _ {s f : Found} {i : ℕ} (r : Rest s f i) (l : i < length arcs) where
       abbrev next : ℕ
-      next = wordAt net (nextFrom + i)
+      next = nextOf net i
 
       abbrev lower : ℕ
       lower = wordAt net (lowerFrom + arcAt arcs i .head)
@@ -260,7 +260,7 @@ module _ (net : List ℕ) (w : Want) (at met : ℕ) (t : Track) where
       next-arc : Next arcs at (i + 1) next
       next-arc = subst (λ (v : ℕ). Next arcs v (i + 1) next) (r .here l) (ready .words .next i l)
 
-      pub next-past : i < wordAt net (nextFrom + i)
+      pub next-past : i < nextOf net i
       next-past = omega (arith, next-arc .from)
 
       head-node : arcAt arcs i .head ≤ lastNode
@@ -269,10 +269,10 @@ module _ (net : List ℕ) (w : Want) (at met : ℕ) (t : Track) where
       turn : (g : Found) → Fit (g .track) → (Sure m w → rest i f ≡ rest next g) → Rest s g next
       turn g fit e = record { inside = next-arc .to; here = next-arc .here; fit = fit; left = λ sure. sym (e sure) ∙ r .left sure }
 
-      pub rest-met : legAt net (w .metres) (behind met (t .metres) (t .exposure)) i ≡ Met → Rest s f (wordAt net (nextFrom + i))
+      pub rest-met : legAt net (w .metres) (behind met (t .metres) (t .exposure)) i ≡ Met → Rest s f (nextOf net i)
       rest-met e = turn f (r .fit) (λ sure. left-met m w met at (routeIn t) i next (soughtIn f) l next-arc (met-is (m .terminal) (w .metres) lower passed (arcAt arcs i) e))
 
-      pub rest-past : {to : ℕ} → legAt net (w .metres) (behind met (t .metres) (t .exposure)) i ≡ Past to → Rest s f (wordAt net (nextFrom + i))
+      pub rest-past : {to : ℕ} → legAt net (w .metres) (behind met (t .metres) (t .exposure)) i ≡ Past to → Rest s f (nextOf net i)
       unfolding routeIn
       rest-past e =
           turn f (r .fit)
@@ -280,7 +280,7 @@ module _ (net : List ℕ) (w : Want) (at met : ℕ) (t : Track) where
           (past-is (m .terminal) (w .metres) lower passed (arcAt arcs i) e .past-end))
 
       -- the arc is left out: what goes over it shares too much
-      pub rest-much : {h : ℕ} {e : Behind} → legAt net (w .metres) (behind met (t .metres) (t .exposure)) i ≡ Leads h e → sharesTooMuch w (e .exposure) ≡ true → Rest s f (wordAt net (nextFrom + i))
+      pub rest-much : {h : ℕ} {e : Behind} → legAt net (w .metres) (behind met (t .metres) (t .exposure)) i ≡ Leads h e → sharesTooMuch w (e .exposure) ≡ true → Rest s f (nextOf net i)
       unfolding routeIn
       rest-much q much =
           turn f (r .fit)
@@ -289,7 +289,7 @@ module _ (net : List ℕ) (w : Want) (at met : ℕ) (t : Track) where
 
       -- the arc is left out: what goes over it comes late to its head
       pub rest-late : {h : ℕ} {e : Behind} → legAt net (w .metres) (behind met (t .metres) (t .exposure)) i ≡ Leads h e → w .as_main ≡ false → {store : List ℕ} → Trails m w store
-          → Shorter store h (e .metres) (e .exposure) → Rest s f (wordAt net (nextFrom + i))
+          → Shorter store h (e .metres) (e .exposure) → Rest s f (nextOf net i)
       unfolding routeIn
       rest-late {h} {e} q standby {store} trails late =
           let o = leads-is (m .terminal) (w .metres) lower passed (arcAt arcs i) q in
@@ -302,7 +302,7 @@ module _ (net : List ℕ) (w : Want) (at met : ℕ) (t : Track) where
       pub record Ended : Type 0 where
         pub room : t .count < mostArcs
         pub gives : (u : Track) → Holds u (overArc (routeIn t) i (arcAt arcs i)) → (g : Found) → Fit (g .track) → soughtIn g ≡ meet m w (soughtIn f) (routeIn u)
-            → Rest s g (wordAt net (nextFrom + i))
+            → Rest s g (nextOf net i)
 
       pub rest-ends : {e : Behind} → legAt net (w .metres) (behind met (t .metres) (t .exposure)) i ≡ Ends e → Ended
       rest-ends q =
@@ -321,7 +321,7 @@ module _ (net : List ℕ) (w : Want) (at met : ℕ) (t : Track) where
         pub came : Trail m (w .main) at′ (e .metres) (e .exposure)
         pub goes : (u : Track) → Holds u (overArc (routeIn t) i (arcAt arcs i)) → Finding net w at′ (e .met) u
         pub gives : (u : Track) → Holds u (overArc (routeIn t) i (arcAt arcs i)) → (g : Found) → Fit (g .track) → (Sure m w → soughtIn g ≡ soughtFrom m w at′ (e .met) (routeIn u) (soughtIn f))
-            → Rest s g (wordAt net (nextFrom + i))
+            → Rest s g (nextOf net i)
 
       pub rest-leads : {h : ℕ} {e : Behind} → legAt net (w .metres) (behind met (t .metres) (t .exposure)) i ≡ Leads h e → Onward h e
       rest-leads {h} {e} q = go (leads-is (m .terminal) (w .metres) lower passed (arcAt arcs i) q)

@@ -19,11 +19,11 @@ use Rattle.problem.proofs.TableLaws.{arcs-length, sound-at}
 use Rattle.side.specs.declared.Side.{Side}
 use Rattle.side.specs.Side.{reachedAt, metresAt, SideTable}
 use Rattle.spans.specs.Marks.{NoSpan}
-use Rattle.chain.specs.Chain.{Chain}
-use Rattle.net.specs.Net.{metresFrom, headsFrom, nextFrom, restFrom, lowFrom, highFrom, firstFrom, lowerFrom, arcCountAt, doorCountAt, doorsFrom, netSize, wordAt, arcsIn, meshIn, exposureIn, doorArc, IsDoor, Chained}
+use Rattle.chain.specs.Chain.{nextIn, Chain}
+use Rattle.net.specs.Net.{metresFrom, linksFrom, lowFrom, highFrom, firstFrom, lowerFrom, arcCountAt, doorCountAt, doorsFrom, netSize, wordAt, headOf, nextOf, tailOf, spanOf, arcsIn, meshIn, exposureIn, doorArc, IsDoor, Chained}
 use Rattle.net.proofs.NetLaws.{arcs-count, arc-is}
 use Rattle.layout.specs.Spread.{Spread}
-use Rattle.layout.specs.Layout.{arcColumn, ArcsLaid, nodeColumn, NodesLaid, requestWords, lowerOf, Doors, DoorsLaid, LaidOut}
+use Rattle.layout.specs.Layout.{linksOf, arcColumn, ArcsLaid, nodeColumn, NodesLaid, requestWords, lowerOf, Doors, DoorsLaid, LaidOut}
 
 -- ---- lower bounds
 
@@ -99,12 +99,15 @@ module _ {n : ℕ} {arcs : List Arc} {terminal count : ℕ} {before after : List
 
 -- ---- all words
 
-fields-say : (a : Arc) {rest head metres risks : ℕ} → a .tail ≤ lastNode → rest ≡ a .tail + 256 * a .span → head ≡ a .head → metres ≡ a .metres → risks ≡ a .risks
-    → record { tail = rest % 256; head = head; span = rest / 256; metres = metres; risks = risks } ≡ a
-fields-say a {rest} low e h m r =
-    let t : rest % 256 ≡ a .tail = omega arith in
-    let s : rest / 256 ≡ a .span = omega arith in
-    rw (t, s, h, m, r)
+-- what a word of links says
+record Links (a : Arc) (after word : ℕ) : Type 0 where
+  pub head : word % 256 ≡ a .head
+  pub next : word / 256 % 256 ≡ after
+  pub tail : word / 65536 % 256 ≡ a .tail
+  pub span : word / 16777216 ≡ a .span
+
+links-say : (a : Arc) {next word : ℕ} → a .head ≤ lastNode → next ≤ mostInTable → a .tail ≤ lastNode → word ≡ linksOf a next → Links a next word
+links-say a {next} {word} h n t e = record { head = omega arith; next = omega arith; tail = omega arith; span = omega arith }
 
 -- an arc without a span is exposed to none
 unspanned : (a : Arc) → a .span ≡ 0 → (ofArc a .low ≡ 0) × (ofArc a .high ≡ 0)
@@ -127,7 +130,7 @@ module _ {table : List ℕ} {q : Request} {side : Side} {doors spanned : ℕ} {c
   few : length arcs ≤ mostInTable
   few = omega (arith, arcs-length table, checked .few-bytes)
 
-  arc-word : (i k j : ℕ) → i ≡ 0 + k + metresFrom * j → k < length arcs → j < 7 → wordAt net i ≡ getD (arcColumn arcs chain k) j 0
+  arc-word : (i k j : ℕ) → i ≡ 0 + k + metresFrom * j → k < length arcs → j < 5 → wordAt net i ≡ getD (arcColumn arcs chain k) j 0
   arc-word i k j e h l =
       of-request .elsewhere i (λ x m q. omega (arith, few))
       ∙ of-doors .elsewhere i (omega (arith, few))
@@ -153,8 +156,8 @@ module _ {table : List ℕ} {q : Request} {side : Side} {doors spanned : ℕ} {c
   unfolding ofArc
   exposure-word k h =
       let risks = arc-word k k 0 (omega arith) h (omega arith) in
-      let low = arc-word (lowFrom + k) k 5 (omega arith) h (omega arith) in
-      let high = arc-word (highFrom + k) k 6 (omega arith) h (omega arith) in
+      let low = arc-word (lowFrom + k) k 3 (omega arith) h (omega arith) in
+      let high = arc-word (highFrom + k) k 4 (omega arith) h (omega arith) in
       λ i. record { risks = risks i; low = low i; high = high i }
 
   lower-word : (v : ℕ) → v ≤ lastNode → wordAt net (lowerFrom + v) ≡ lowerAt side v
@@ -163,15 +166,22 @@ module _ {table : List ℕ} {q : Request} {side : Side} {doors spanned : ℕ} {c
   says-count : length (arcsIn net) ≡ length arcs
   says-count = arcs-count net ∙ of-request .here 0 (omega arith)
 
+  links : (k : ℕ) → k < length arcs → Links (arcAt arcs k) (nextIn chain k) (wordAt net (linksFrom + k))
+  links k h =
+      let sound = sound-at arcs (checked .sound) k h in
+      links-say (arcAt arcs k) (sound .head-node) (omega (arith, chained .next k h .to, few)) (sound .tail-node) (arc-word (linksFrom + k) k 2 (omega arith) h (omega arith))
+
   says-arc : (k : ℕ) → k < length arcs → arcAt (arcsIn net) k ≡ arcAt arcs k
+  unfolding headOf tailOf spanOf
   says-arc k h =
+      let l = links k h in
       arc-is net k (omega (arith, says-count))
-      ∙ fields-say (arcAt arcs k)
-      (sound-at arcs (checked .sound) k h .tail-node)
-      (arc-word (restFrom + k) k 4 (omega arith) h (omega arith))
-      (arc-word (headsFrom + k) k 2 (omega arith) h (omega arith))
-      (arc-word (metresFrom + k) k 1 (omega arith) h (omega arith))
-      (arc-word k k 0 (omega arith) h (omega arith))
+      ∙ rw (l .tail, l .head, l .span, arc-word (metresFrom + k) k 1 (omega arith) h (omega arith), arc-word k k 0 (omega arith) h (omega arith))
+
+  -- the next arc stands where it is read
+  says-next : (k : ℕ) → k < length arcs → nextOf net k ≡ nextIn chain k
+  unfolding nextOf
+  says-next k h = links k h .next
 
   says-arcs : arcsIn net ≡ arcs
   says-arcs = ext-getD (arcAt [] 0) (arcsIn net) arcs says-count (λ k h. says-arc k (omega (arith, says-count)))
@@ -188,7 +198,7 @@ module _ {table : List ℕ} {q : Request} {side : Side} {doors spanned : ℕ} {c
     terminal-node = checked .terminal-node;
     ends-differ = checked .ends-differ;
     reach-range = checked .reach-range;
-    next = λ k h. rw (arc-word (nextFrom + k) k 3 (omega arith) h (omega arith)) (chained .next k h);
+    next = λ k h. rw (says-next k h) (chained .next k h);
     first = λ v h. rw (node-word (firstFrom + v) v 0 (omega arith) h (omega arith)) (chained .first v h);
     lower = λ v h w. rw (lower-word v h) (lower-least sides v w);
     lower-small = λ v h. rw (lower-word v h) (lower-low sides v);

@@ -15,9 +15,13 @@ use Rattle.chain.specs.Chain.{firstIn, nextIn}
 use Rattle.net.specs.Net.{firstFrom, lowerFrom, doorsFrom, wordAt, meshIn, doorArc, IsDoor, Net}
 use Rattle.layout.specs.Spread.{Columns}
 
--- the words of an arc, one of which holds its tail and its span; those of arc k; those of all arcs are written
+-- an arc's links in one word: its head, the arc that comes next behind it, its tail, and above these three its span
+abbrev pub linksOf : Arc → (next : ℕ) → ℕ
+linksOf a next = a .head + 256 * next + 65536 * a .tail + 16777216 * a .span
+
+-- the words of an arc; those of arc k; those of all arcs are written
 abbrev pub arcWords : Arc → (next : ℕ) → List ℕ
-arcWords a next = a .risks ∷ a .metres ∷ a .head ∷ next ∷ (a .tail + 256 * a .span) ∷ ofArc a .low ∷ ofArc a .high ∷ []
+arcWords a next = a .risks ∷ a .metres ∷ linksOf a next ∷ ofArc a .low ∷ ofArc a .high ∷ []
 
 abbrev pub arcColumn : List Arc → (chain : List ℕ) → ℕ → List ℕ
 arcColumn arcs chain k = arcWords (arcAt arcs k) (nextIn chain k)

@@ -1,5 +1,6 @@
 // A checked table laid out in the words that searches walk over (crate net says which word stands where).
 use problem::ARC_BYTES;
+use problem::Arc;
 use problem::Request;
 use side::Side;
 ghost use mathlib.Core.Path.{_≡_};
@@ -13,7 +14,7 @@ ghost use Rattle.side.specs.Side.{SideTable};
 ghost use Rattle.chain.specs.Chain.{chainSize};
 ghost use Rattle.net.specs.Net.{netSize};
 ghost use Rattle.layout.specs.Spread.{Spread};
-ghost use Rattle.layout.specs.Layout.{ArcsLaid, lowerOf, NodesLaid, DoorsLaid, LaidOut};
+ghost use Rattle.layout.specs.Layout.{linksOf, ArcsLaid, lowerOf, NodesLaid, DoorsLaid, LaidOut};
 
 // Where the words begin, and how far those of one arc and of one node stand apart.
 const ARC_STEP: usize = net::METRES_FROM as usize;
@@ -42,7 +43,15 @@ fn spread(net: &mut [u64], at: usize, step: usize, values: &[u64])
     }
 }
 
-// Writes the words of every arc: its risks, metres and head, the arc that comes next behind it, and what else its record says.
+// An arc's links in one word: its head, the arc that comes next behind it, its tail, and above these three its span.
+fn links(a: Arc, next: u8) -> u64
+    ensures { λ r. ⌜ r ≡ linksOf a next ⌝ }
+{
+    let forward = a.head as u64 + 256 * (next as u64);
+    forward + 65536 * (a.tail as u64) + 16777216 * (a.span as u64)
+}
+
+// Writes the words of every arc: its risks, metres and links, and the two fields of its span.
 fn lay_arcs(net: &mut [u64], table: &[u8], chain: &[u8])
     requires { ⌜ (length (now net) ≡ netSize) × (length (now chain) ≡ chainSize) × (length (now table) ≤ mostTableBytes) ⌝ }
     ensures { λ _. ⌜ ArcsLaid (arcsOf (now (table .entry))) (now (chain .entry)) (now (net .entry)) (now (net .exit)) ⌝ }
@@ -51,18 +60,9 @@ fn lay_arcs(net: &mut [u64], table: &[u8], chain: &[u8])
     let mut k = 0;
     while k < n {
         let a = arcs::arc_at(table, k);
-        let next = chain::next(chain, k) as u64;
-        let rest = a.tail as u64 + 256 * (a.span as u64);
+        let next = chain::next(chain, k);
         let e = exposure::of_arc(a);
-        let fields = [
-            a.risks,
-            a.metres as u64,
-            a.head as u64,
-            next,
-            rest,
-            e.low,
-            e.high,
-        ];
+        let fields = [a.risks, a.metres as u64, links(a, next), e.low, e.high];
         spread(net, k, ARC_STEP, &fields);
         k += 1;
     }

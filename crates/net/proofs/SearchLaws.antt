@@ -27,7 +27,7 @@ use Rattle.problem.proofs.PathLaws.{sound-heads}
 use Rattle.chain.specs.Chain.{Next}
 use Rattle.chain.proofs.ChainLaws.{sprout-next}
 use Rattle.net.specs.declared.Behind.{Behind}
-use Rattle.net.specs.Net.{nextFrom, firstFrom, lowerFrom, wordAt, arcsIn, meshIn, Net}
+use Rattle.net.specs.Net.{firstFrom, lowerFrom, wordAt, nextOf, arcsIn, meshIn, Net}
 use Rattle.net.specs.Search.{behind, start, onto, along, visit, onward, searched, searchedAll}
 use Rattle.net.proofs.NetLaws.{left-next}
 
@@ -103,13 +103,13 @@ module _ {S : Type 0} (net : List ℕ) (end : S → Behind → S) (b : Behind) (
     left-last i s h = left-end arcs terminal (visit arcs end b) (unmet 32 met) met at i s h
 
     module _ {i : ℕ} (place : Place i) (l : i < length arcs) where
-      pub next-arc : Next arcs at (i + 1) (wordAt net (nextFrom + i))
-      next-arc = subst (λ (v : ℕ). Next arcs v (i + 1) (wordAt net (nextFrom + i))) (place .here l) (words .next i l)
+      pub next-arc : Next arcs at (i + 1) (nextOf net i)
+      next-arc = subst (λ (v : ℕ). Next arcs v (i + 1) (nextOf net i)) (place .here l) (words .next i l)
 
-      pub place-next : Place (wordAt net (nextFrom + i))
+      pub place-next : Place (nextOf net i)
       place-next = record { inside = next-arc .to; here = next-arc .here }
 
-      pub next-past : i < wordAt net (nextFrom + i)
+      pub next-past : i < nextOf net i
       next-past = omega (arith, next-arc .from)
 
       pub head-node : head i ≤ lastNode
@@ -118,19 +118,19 @@ module _ {S : Type 0} (net : List ℕ) (end : S → Behind → S) (b : Behind) (
       pub fewer : bit met (head i) ≡ 0 → unmet 32 met ≡ suc (unmet 32 (with met (head i)))
       fewer e = unmet-with 32 (head i) met (omega (arith, head-node)) e
 
-      further : (s : S) → Left (i + 1) s ≡ Left (wordAt net (nextFrom + i)) s
+      further : (s : S) → Left (i + 1) s ≡ Left (nextOf net i) s
       further s = left-next arcs terminal (visit arcs end b) (unmet 32 met) met at (i + 1) _ s next-arc
 
       -- a head that was met before
-      pub left-met : (s : S) → bit met (head i) ≡ 1 → Left i s ≡ Left (wordAt net (nextFrom + i)) s
+      pub left-met : (s : S) → bit met (head i) ≡ 1 → Left i s ≡ Left (nextOf net i) s
       left-met s e = go (opens met at (arcAt arcs i)) refl
         where
-          go : (o : Bool) → opens met at (arcAt arcs i) ≡ o → Left i s ≡ Left (wordAt net (nextFrom + i)) s
+          go : (o : Bool) → opens met at (arcAt arcs i) ≡ o → Left i s ≡ Left (nextOf net i) s
           go true f = absurd (omega (arith, opens-new met at (arcAt arcs i) f))
           go false f = left-shut arcs terminal (visit arcs end b) (unmet 32 met) met at i s l f ∙ further s
 
       -- what all that goes over the arc makes of the state
-      left-through : (s r : S) → bit met (head i) ≡ 0 → through i s ≡ r → Left i s ≡ Left (wordAt net (nextFrom + i)) r
+      left-through : (s r : S) → bit met (head i) ≡ 0 → through i s ≡ r → Left i s ≡ Left (nextOf net i) r
       unfolding along
       left-through s r e f =
           left-open arcs terminal (visit arcs end b) (unmet 32 met) met at i s l (opens-by met at (arcAt arcs i) (place .here l) e)
@@ -138,23 +138,23 @@ module _ {S : Type 0} (net : List ℕ) (end : S → Behind → S) (b : Behind) (
 
       -- nothing that goes over the arc changes the state
       pub left-idle : (s : S) → ((ks : List ℕ) → Way arcs (head i) terminal ks → wordAt net (lowerFrom + head i) ≤ metresOf arcs ks → visit arcs end (over i) s ks ≡ s)
-          → Left i s ≡ Left (wordAt net (nextFrom + i)) s
+          → Left i s ≡ Left (nextOf net i) s
       left-idle s f = go (opens met at (arcAt arcs i)) refl
         where
           idle : (ks : List ℕ) → Way arcs (head i) terminal ks → visit arcs end (over i) s ks ≡ s
           idle ks w = f ks w (words .lower (head i) head-node w)
 
-          go : (o : Bool) → opens met at (arcAt arcs i) ≡ o → Left i s ≡ Left (wordAt net (nextFrom + i)) s
+          go : (o : Bool) → opens met at (arcAt arcs i) ≡ o → Left i s ≡ Left (nextOf net i) s
           go true e = left-through s s (opens-new met at (arcAt arcs i) e) (fold-idle _ s _ (λ ks m. idle ks (grow-way arcs terminal (unmet 32 met) (with met (head i)) (head i) m)))
           go false e = left-shut arcs terminal (visit arcs end b) (unmet 32 met) met at i s l e ∙ further s
 
       -- the arc ends at the terminal
-      pub left-there : (s : S) → bit met (head i) ≡ 0 → head i ≡ terminal → Left i s ≡ Left (wordAt net (nextFrom + i)) (end s (over i))
+      pub left-there : (s : S) → bit met (head i) ≡ 0 → head i ≡ terminal → Left i s ≡ Left (nextOf net i) (end s (over i))
       unfolding along
       left-there s e t = left-through s _ e (fold-there arcs terminal _ (unmet 32 met) _ _ s t)
 
       -- the search goes on from the head: the fuel is one more than the nodes not met then
-      pub left-onward : (s : S) → bit met (head i) ≡ 0 → Left i s ≡ Left (wordAt net (nextFrom + i)) (searched (meshIn net) end (over i) (head i) s)
+      pub left-onward : (s : S) → bit met (head i) ≡ 0 → Left i s ≡ Left (nextOf net i) (searched (meshIn net) end (over i) (head i) s)
       left-onward s e =
           left-through s _ e (ap (λ (n : ℕ). foldl (visit arcs end (over i)) s (grow arcs terminal n (with met (head i)) (head i))) (fewer e))
 
@@ -166,7 +166,7 @@ module _ {S : Type 0} (net : List ℕ) (end : S → Behind → S) (b : Behind) (
 
     -- a member goes over the arc, or is left from the next arc on
     pub list-next : {i : ℕ} (place : Place i) (l : i < length arcs) {ks : List ℕ} → List·Memᴰ ks (listFrom i)
-        → ((more : List ℕ) × (ks ≡ i ∷ more) × (bit met (head i) ≡ 0) × List·Memᴰ more (grow arcs terminal (unmet 32 met) (with met (head i)) (head i))) ⊎ List·Memᴰ ks (listFrom (wordAt net (nextFrom + i)))
+        → ((more : List ℕ) × (ks ≡ i ∷ more) × (bit met (head i) ≡ 0) × List·Memᴰ more (grow arcs terminal (unmet 32 met) (with met (head i)) (head i))) ⊎ List·Memᴰ ks (listFrom (nextOf net i))
     unfolding sprout
     list-next {i} place l {ks} m = go (opens met at (arcAt arcs i)) refl
       where
@@ -176,16 +176,16 @@ module _ {S : Type 0} (net : List ℕ) (end : S → Behind → S) (b : Behind) (
         here : List·Memᴰ ks (sprout (grow arcs terminal (unmet 32 met)) met at i (arcAt arcs i ∷ drop (suc i) arcs))
         here = rw (drop-cons arcs i (arcAt [] 0) l) at m
 
-        on : sprout (grow arcs terminal (unmet 32 met)) met at (suc i) (drop (suc i) arcs) ≡ listFrom (wordAt net (nextFrom + i))
+        on : sprout (grow arcs terminal (unmet 32 met)) met at (suc i) (drop (suc i) arcs) ≡ listFrom (nextOf net i)
         on = rw add-one at (sprout-next (grow arcs terminal (unmet 32 met)) met at arcs (i + 1) _ (next-arc place l))
 
         cases : opens met at (arcAt arcs i) ≡ true
             → List·Memᴰ ks (map (λ r. i ∷ r) (grow arcs terminal (unmet 32 met) (with met (head i)) (head i))) ⊎ List·Memᴰ ks (sprout (grow arcs terminal (unmet 32 met)) met at (suc i) (drop (suc i) arcs))
-            → Over ⊎ List·Memᴰ ks (listFrom (wordAt net (nextFrom + i)))
+            → Over ⊎ List·Memᴰ ks (listFrom (nextOf net i))
         cases e (inl x) = let o = Memᴰ·of-map (λ r. i ∷ r) (grow arcs terminal (unmet 32 met) (with met (head i)) (head i)) x in inl (o .0, sym (o .2), opens-new met at (arcAt arcs i) e, o .1)
         cases e (inr x) = inr (subst (λ (r : List (List ℕ)). List·Memᴰ ks r) on x)
 
-        go : (o : Bool) → opens met at (arcAt arcs i) ≡ o → Over ⊎ List·Memᴰ ks (listFrom (wordAt net (nextFrom + i)))
+        go : (o : Bool) → opens met at (arcAt arcs i) ≡ o → Over ⊎ List·Memᴰ ks (listFrom (nextOf net i))
         go true e = cases e (List·Memᴰ·append-cases (map (λ r. i ∷ r) (grow arcs terminal (unmet 32 met) (with met (head i)) (head i))) (rw (e, sprout) at here))
         go false e = inr (subst (λ (r : List (List ℕ)). List·Memᴰ ks r) on (rw (e, sprout) at here))
 

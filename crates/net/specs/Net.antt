@@ -11,23 +11,17 @@ use Rattle.problem.specs.Exposures.{ofArc}
 use Rattle.problem.specs.Routes.{Mesh, mesh, arcAt, Way, metresOf, Route, ranking}
 use Rattle.chain.specs.Chain.{Next}
 
--- where the words of each kind begin: as many words as a table can have arcs for the arcs' risks, metres, heads and next arcs, for what else an arc's record
--- says, and for the two fields of its span; as many as there are nodes for the nodes' first arcs and lower bounds; then the number of arcs and the request; then the
--- number of doors, the arcs into the terminal, and their numbers
+-- where the words of each kind begin: as many words as a table can have arcs for the arcs' risks, metres and links, and for the two fields of their spans; as many as
+-- there are nodes for the nodes' first arcs and lower bounds; then the number of arcs and the request; then the number of doors, the arcs into the terminal, and their
+-- numbers
 abbrev pub metresFrom : ℕ
 metresFrom = mostInTable
 
-abbrev pub headsFrom : ℕ
-headsFrom = metresFrom + mostInTable
-
-abbrev pub nextFrom : ℕ
-nextFrom = headsFrom + mostInTable
-
-abbrev pub restFrom : ℕ
-restFrom = nextFrom + mostInTable
+abbrev pub linksFrom : ℕ
+linksFrom = metresFrom + mostInTable
 
 abbrev pub lowFrom : ℕ
-lowFrom = restFrom + mostInTable
+lowFrom = linksFrom + mostInTable
 
 abbrev pub highFrom : ℕ
 highFrom = lowFrom + mostInTable
@@ -66,12 +60,25 @@ netSize = doorsFrom + mostInTable
 abbrev pub wordAt : List ℕ → ℕ → ℕ
 wordAt net i = getD net i 0
 
--- the arcs that the words say: n of them, from number k on. No search reads the word of an arc's tail and span (the tail is its lowest byte); it is
--- there so that the words say the table's own arcs
+-- an arc's links, from the lowest byte on: its head, the arc that comes next behind it in the chain of its tail, its tail, and above these three its span. No
+-- search reads the tail or the span; they are there so that the words say the table's own arcs
+unfoldable pub headOf : List ℕ → ℕ → ℕ
+headOf net k = wordAt net (linksFrom + k) % 256
+
+unfoldable pub nextOf : List ℕ → ℕ → ℕ
+nextOf net k = wordAt net (linksFrom + k) / 256 % 256
+
+unfoldable pub tailOf : List ℕ → ℕ → ℕ
+tailOf net k = wordAt net (linksFrom + k) / 65536 % 256
+
+unfoldable pub spanOf : List ℕ → ℕ → ℕ
+spanOf net k = wordAt net (linksFrom + k) / 16777216
+
+-- the arcs that the words say: n of them, from number k on
 unfoldable pub arcsFrom : List ℕ → ℕ → ℕ → List Arc
 arcsFrom net zero k = []
 arcsFrom net (suc n) k =
-    record { tail = wordAt net (restFrom + k) % 256; head = wordAt net (headsFrom + k); span = wordAt net (restFrom + k) / 256; metres = wordAt net (metresFrom + k); risks = wordAt net k }
+    record { tail = tailOf net k; head = headOf net k; span = spanOf net k; metres = wordAt net (metresFrom + k); risks = wordAt net k }
     ∷ arcsFrom net n (suc k)
 
 unfoldable pub arcsIn : List ℕ → List Arc
@@ -112,7 +119,7 @@ pub record Chained (m : Mesh) (net : List ℕ) : Type 0 where
   pub ends-differ : m .source ≡ m .terminal → ⊥
   pub reach-range : m .reach ≤ mostReach
   -- the chain of each node
-  pub next : (k : ℕ) → k < length (m .arcs) → Next (m .arcs) (arcAt (m .arcs) k .tail) (k + 1) (wordAt net (nextFrom + k))
+  pub next : (k : ℕ) → k < length (m .arcs) → Next (m .arcs) (arcAt (m .arcs) k .tail) (k + 1) (nextOf net k)
   pub first : (v : ℕ) → v ≤ lastNode → Next (m .arcs) v 0 (wordAt net (firstFrom + v))
   -- no way from a node to the terminal is shorter than its lower bound
   pub lower : (v : ℕ) → v ≤ lastNode → {ks : List ℕ} → Way (m .arcs) v (m .terminal) ks → wordAt net (lowerFrom + v) ≤ metresOf (m .arcs) ks

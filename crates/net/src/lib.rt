@@ -6,19 +6,16 @@ ghost use lib.ListN.{length};
 ghost use Rattle.problem.specs.Table.{lastNode, mostArcMetres, mostReach};
 ghost use Rattle.problem.specs.Exposures.{ofArc};
 ghost use Rattle.problem.specs.Routes.{arcAt};
-ghost use Rattle.net.specs.Net.{nextFrom, firstFrom, lowerFrom, doorCountAt, spannedAt, wordAt, arcsIn, meshIn, doorArc, Net};
+ghost use Rattle.net.specs.Net.{firstFrom, lowerFrom, doorCountAt, spannedAt, wordAt, nextOf, arcsIn, meshIn, doorArc, Net};
 
-// Where the words of each kind begin: as many words as a table can have arcs for each field of an arc, as many as there are nodes for each
-// field of a node; then the number of arcs, the request, the number of doors, whether there are spans, and the doors.
+// Where the words of each kind begin: as many words as a table can have arcs for the risks, the metres, the links (head, next arc, tail and span in one
+// word) and the two fields of the span of an arc; as many as there are nodes for each field of a node; then the number of arcs, the request, the number
+// of doors, whether there are spans, and the doors.
 pub const METRES_FROM: u64 = problem::MOST_IN_TABLE as u64;
 
-const HEADS_FROM: u64 = METRES_FROM + METRES_FROM;
+const LINKS_FROM: u64 = METRES_FROM + METRES_FROM;
 
-const NEXT_FROM: u64 = HEADS_FROM + METRES_FROM;
-
-const REST_FROM: u64 = NEXT_FROM + METRES_FROM;
-
-const LOW_FROM: u64 = REST_FROM + METRES_FROM;
+const LOW_FROM: u64 = LINKS_FROM + METRES_FROM;
 
 const HIGH_FROM: u64 = LOW_FROM + METRES_FROM;
 
@@ -106,15 +103,15 @@ pub fn head(net: &[u64], k: u64) -> u64
     requires { ⌜ Net (now net) × (k < length (arcsIn (now net))) ⌝ }
     ensures { λ r. ⌜ (r ≡ arcAt (arcsIn (now (net .entry))) k .head) × (r ≤ lastNode) ⌝ }
 {
-    word(net, HEADS_FROM + k)
+    word(net, LINKS_FROM + k) % 256
 }
 
 // The arc that comes next behind arc k in the chain of its tail, and the first of node v; the number of arcs ends a chain.
 pub fn next(net: &[u64], k: u64) -> u64
     requires { ⌜ Net (now net) × (k < length (arcsIn (now net))) ⌝ }
-    ensures { λ r. ⌜ r ≡ wordAt (now (net .entry)) (nextFrom + k) ⌝ }
+    ensures { λ r. ⌜ r ≡ nextOf (now (net .entry)) k ⌝ }
 {
-    word(net, NEXT_FROM + k)
+    word(net, LINKS_FROM + k) / 256 % 256
 }
 
 pub fn first(net: &[u64], v: u64) -> u64

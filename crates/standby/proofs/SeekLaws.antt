@@ -20,7 +20,7 @@ use Rattle.exposure.proofs.WordLaws.{joined-by-field}
 use Rattle.keys.specs.Keys.{standbyKey}
 use Rattle.labels.specs.Labels.{Known, Frame, Cleared, Labelled}
 use Rattle.net.specs.declared.Behind.{Behind}
-use Rattle.net.specs.Net.{nextFrom, firstFrom, lowerFrom, wordAt, arcsIn, meshIn, Net}
+use Rattle.net.specs.Net.{firstFrom, lowerFrom, wordAt, nextOf, arcsIn, meshIn, Net}
 use Rattle.net.specs.Search.{behind, onto, onward, searched}
 use Rattle.net.proofs.SearchLaws.{Left, listFrom, over, Place, place-first, place-next, next-past, next-arc, head-node, fewer, left-first, left-last, left-met, left-idle, left-there, left-onward}
 use Rattle.standby.specs.declared.Hop.the-variants.{Passed, Ends, Leads}
@@ -103,7 +103,7 @@ module _ (net : List ℕ) (main : Exposure) (b : Behind) (at : ℕ) where
     words = hand .start .words
 
     abbrev next : ℕ
-    next = wordAt net (nextFrom + i)
+    next = nextOf net i
 
     abbrev arc : Arc
     arc = arcAt arcs i
@@ -111,7 +111,7 @@ module _ (net : List ℕ) (main : Exposure) (b : Behind) (at : ℕ) where
     abbrev lower : ℕ
     lower = wordAt net (lowerFrom + arcAt arcs i .head)
 
-    pub arc-past : i < wordAt net (nextFrom + i)
+    pub arc-past : i < nextOf net i
     arc-past = next-past net (offered m main) b at words (g .place) l
 
     node : arcAt arcs i .head ≤ lastNode
@@ -155,7 +155,7 @@ module _ (net : List ℕ) (main : Exposure) (b : Behind) (at : ℕ) where
     no-better-over : (banned n x : ℕ) → x ≤ keyOver lower main door b (arcAt arcs i) → Over banned n x i
     no-better-over banned n x h e = ahead-no-better (asked banned) lower _ low (λ ks w. shared-ahead (hand .start .doors) i l (b .exposure) w) h
 
-    pub going-past : hopAt net main door least b i ≡ Passed → Going bound before store least (wordAt net (nextFrom + i))
+    pub going-past : hopAt net main door least b i ≡ Passed → Going bound before store least (nextOf net i)
     going-past e = go (passed-is m lower main door least b (arcAt arcs i) e)
       where
         go : Skips m lower main door least b (arcAt arcs i) → Going bound before store least next
@@ -171,7 +171,7 @@ module _ (net : List ℕ) (main : Exposure) (b : Behind) (at : ℕ) where
             (omega (arith, left-idle net (offered m main) b at words (g .place) l least (λ ks w x. offer-no-better m main (over net (offered m main) b at i) least _ _ ks x (shared-ahead (hand .start .doors) i l (b .exposure) w) f)))
             (λ banned k x h a s. (no-better-over banned k x (omega (arith, f)), s))
 
-    pub going-ends : {k : ℕ} → hopAt net main door least b i ≡ Ends k → Going bound before store k (wordAt net (nextFrom + i))
+    pub going-ends : {k : ℕ} → hopAt net main door least b i ≡ Ends k → Going bound before store k (nextOf net i)
     going-ends {k} e = go (ends-is m lower main door least b (arcAt arcs i) e)
       where
         go : Ending m lower main door least b (arcAt arcs i) k → Going bound before store k next
@@ -191,8 +191,8 @@ module _ (net : List ℕ) (main : Exposure) (b : Behind) (at : ℕ) where
       pub shared-is : n ≡ sharing main (e .exposure)
       pub seeking : Seeking net main door h (e .metres)
       pub fewer-nodes : unmet 32 (b .met) ≡ suc (unmet 32 (e .met))
-      pub by-label : Known store h (e .metres) (e .exposure) → Going bound before store least (wordAt net (nextFrom + i))
-      pub gives : (x : ℕ) (after : List ℕ) → Sought net main h e least store after x → Going bound before after x (wordAt net (nextFrom + i))
+      pub by-label : Known store h (e .metres) (e .exposure) → Going bound before store least (nextOf net i)
+      pub gives : (x : ℕ) (after : List ℕ) → Sought net main h e least store after x → Going bound before after x (nextOf net i)
 
     pub going-leads : {h : ℕ} {e : Behind} {n : ℕ} → hopAt net main door least b i ≡ Leads h e n → Onto h e n
     going-leads {h} {e} {n} q = go (leads-is m lower main door least b (arcAt arcs i) q)

@@ -13,7 +13,7 @@ use Rattle.problem.specs.Table.{lastNode}
 use Rattle.problem.specs.Routes.{Mesh, arcAt, metresOf, sprout, grow, paths}
 use Rattle.problem.proofs.GrowthLaws.{fold-idle, grow-way, leftFrom}
 use Rattle.net.specs.declared.Behind.{Behind}
-use Rattle.net.specs.Net.{nextFrom, firstFrom, lowerFrom, wordAt, arcsIn, meshIn, Net}
+use Rattle.net.specs.Net.{firstFrom, lowerFrom, wordAt, nextOf, arcsIn, meshIn, Net}
 use Rattle.net.specs.Search.{start, onto, along, visit, onward, searched}
 use Rattle.net.proofs.SearchLaws.{along-metres, Left, over, Place, place-first, left-first, left-last, place-next, next-past, head-node, fewer, left-met, left-idle, left-there, left-onward, listFrom, list-first, list-next}
 use Rattle.look.specs.declared.Leg.the-variants.{Met, Past, Ends, Leads}
@@ -103,7 +103,7 @@ module _ (net : List ℕ) (w : Window) (at : ℕ) (b : Behind) where
 
     module _ {s r : Swept} {i : ℕ} (rest : Rest s r i) (l : i < length (arcsIn net)) (was : r .tally .over ≡ false) where
       abbrev next : ℕ
-      next = wordAt net (nextFrom + i)
+      next = nextOf net i
 
       abbrev head : ℕ
       head = arcAt (arcsIn net) i .head
@@ -111,7 +111,7 @@ module _ (net : List ℕ) (w : Window) (at : ℕ) (b : Behind) where
       abbrev lower : ℕ
       lower = wordAt net (lowerFrom + head)
 
-      pub arc-past : i < wordAt net (nextFrom + i)
+      pub arc-past : i < nextOf net i
       arc-past = next-past net end b at words (rest .place) l
 
       -- on to the next arc: what lies past the window's end over this one is cut off
@@ -143,12 +143,12 @@ module _ (net : List ℕ) (w : Window) (at : ℕ) (b : Behind) where
           go o h (inl q) = inl (omega arith)
           go o h (inr q) = split o h (list-next net end b at words (rest .place) l q)
 
-      pub rest-met : legAt net (w .hi) b i ≡ Met → Rest s r (wordAt net (nextFrom + i))
+      pub rest-met : legAt net (w .hi) b i ≡ Met → Rest s r (nextOf net i)
       rest-met e =
           let x = met-is (m .terminal) (w .hi) lower b (arcAt (arcsIn net) i) e in
           turn r (left-met net end b at words (rest .place) l (r .tally) x) (omega arith) (λ h. h) (λ o more z. absurd (omega arith))
 
-      pub rest-cut : {to : ℕ} → legAt net (w .hi) b i ≡ Past to → (r′ : Swept) → r′ .tally ≡ r .tally → r′ .cut ≡ min (r .cut) to → Rest s r′ (wordAt net (nextFrom + i))
+      pub rest-cut : {to : ℕ} → legAt net (w .hi) b i ≡ Past to → (r′ : Swept) → r′ .tally ≡ r .tally → r′ .cut ≡ min (r .cut) to → Rest s r′ (nextOf net i)
       unfolding metresOf
       rest-cut {to} e r′ same cut =
           let p = past-is (m .terminal) (w .hi) lower b (arcAt (arcsIn net) i) e in
@@ -164,7 +164,7 @@ module _ (net : List ℕ) (w : Window) (at : ℕ) (b : Behind) where
       pub ends-in : {e : Behind} → legAt net (w .hi) b i ≡ Ends e → e .metres ≤ w .hi
       ends-in {e} q = let o = ends-is (m .terminal) (w .hi) lower b (arcAt (arcsIn net) i) q in omega (arith, ap (λ (x : Behind). x .metres) (o .is), o .inside)
 
-      pub rest-ends : {e : Behind} → legAt net (w .hi) b i ≡ Ends e → (r′ : Swept) → r′ .tally ≡ ended m w e (r .tally) → r′ .cut ≡ r .cut → Rest s r′ (wordAt net (nextFrom + i))
+      pub rest-ends : {e : Behind} → legAt net (w .hi) b i ≡ Ends e → (r′ : Swept) → r′ .tally ≡ ended m w e (r .tally) → r′ .cut ≡ r .cut → Rest s r′ (nextOf net i)
       unfolding metresOf grow
       rest-ends {e} q r′ met-it cut = go (ends-is (m .terminal) (w .hi) lower b (arcAt (arcsIn net) i) q)
         where
@@ -187,7 +187,7 @@ module _ (net : List ℕ) (w : Window) (at : ℕ) (b : Behind) where
         pub goes-on : h ≡ m .terminal → ⊥
         pub in-window : e .metres ≤ w .hi
         pub fewer-nodes : unmet 32 (b .met) ≡ suc (unmet 32 (e .met))
-        pub gives : (r′ : Swept) → Sweeps net w h e r r′ → Rest s r′ (wordAt net (nextFrom + i))
+        pub gives : (r′ : Swept) → Sweeps net w h e r r′ → Rest s r′ (nextOf net i)
 
       pub rest-leads : {h : ℕ} {e : Behind} → legAt net (w .hi) b i ≡ Leads h e → Onward h e
       unfolding metresOf

@@ -14,7 +14,7 @@ use Rattle.problem.specs.Table.{mostReach}
 use Rattle.problem.specs.Exposures.{toNothing}
 use Rattle.problem.specs.Routes.{Mesh}
 use Rattle.net.specs.declared.Behind.{Behind}
-use Rattle.net.specs.Net.{nextFrom, firstFrom, wordAt, arcsIn, meshIn, Net}
+use Rattle.net.specs.Net.{firstFrom, wordAt, nextOf, arcsIn, meshIn, Net}
 use Rattle.net.specs.Search.{behind, searched}
 use Rattle.net.proofs.SearchLaws.{from-source, source-paths}
 use Rattle.look.specs.declared.Leg.{Leg}
@@ -109,7 +109,7 @@ pub record InHand (net : List ℕ) (at : ℕ) (b : Behind) (before run : List �
 
 module _ {net : List ℕ} {at : ℕ} {b : Behind} {before run : List ℕ} {i : ℕ} {g : Leg} (h : InHand net at b before run i g) where
   abbrev next : ℕ
-  next = wordAt net (nextFrom + i)
+  next = nextOf net i
 
   abbrev window-same : windowIn run ≡ windowIn before
   window-same = h .walking .kept .window
@@ -127,13 +127,13 @@ module _ {net : List ℕ} {at : ℕ} {b : Behind} {before run : List ℕ} {i : �
   still-kept : {run′ : List ℕ} → Kept run run′ → Kept before run′
   still-kept s = record { size = s .size ∙ h .walking .kept .size; window = s .window ∙ window-same }
 
-  pub walking-past : i < wordAt net (nextFrom + i)
+  pub walking-past : i < nextOf net i
   walking-past = arc-past net (windowIn before) at b words (h .walking .rest) (h .inside) not-over
 
-  pub walking-met : g ≡ Met → Walking net at b before run (wordAt net (nextFrom + i))
+  pub walking-met : g ≡ Met → Walking net at b before run (nextOf net i)
   walking-met e = record { kept = h .walking .kept; rest = rest-met net (windowIn before) at b words (h .walking .rest) (h .inside) not-over (leg e) }
 
-  pub walking-cut : {to : ℕ} → g ≡ Past to → {run′ : List ℕ} → Cuts to run run′ → Walking net at b before run′ (wordAt net (nextFrom + i))
+  pub walking-cut : {to : ℕ} → g ≡ Past to → {run′ : List ℕ} → Cuts to run run′ → Walking net at b before run′ (nextOf net i)
   walking-cut e {run′} c =
       record {
         kept = still-kept (c .kept);
@@ -143,7 +143,7 @@ module _ {net : List ℕ} {at : ℕ} {b : Behind} {before run : List ℕ} {i : �
   pub route-in-reach : {e : Behind} → g ≡ Ends e → e .metres ≤ mostReach
   route-in-reach e = omega (arith, ends-in net (windowIn before) at b words (h .walking .rest) (h .inside) not-over (leg e), h .start .hi-range)
 
-  pub walking-ends : {e : Behind} → g ≡ Ends e → {run′ : List ℕ} → Meets (meshIn net) e run run′ → Walking net at b before run′ (wordAt net (nextFrom + i))
+  pub walking-ends : {e : Behind} → g ≡ Ends e → {run′ : List ℕ} → Meets (meshIn net) e run run′ → Walking net at b before run′ (nextOf net i)
   walking-ends {e} q {run′} x =
       record {
         kept = still-kept (x .kept);
@@ -156,7 +156,7 @@ module _ {net : List ℕ} {at : ℕ} {b : Behind} {before run : List ℕ} {i : �
   pub record Ahead (at′ : ℕ) (e : Behind) : Type 0 where
     pub ready : Sweeping net (wordAt run hiAt) at′ (e .metres)
     pub fewer-nodes : unmet 32 (b .met) ≡ suc (unmet 32 (e .met))
-    pub gives : {run′ : List ℕ} → Walks net at′ e run run′ → Walking net at b before run′ (wordAt net (nextFrom + i))
+    pub gives : {run′ : List ℕ} → Walks net at′ e run run′ → Walking net at b before run′ (nextOf net i)
 
   pub walking-leads : {at′ : ℕ} {e : Behind} → g ≡ Leads at′ e → Ahead at′ e
   walking-leads {at′} {e} q =

@@ -7,7 +7,7 @@ use native.Mathlib.Omega.{arith}
 use lib.ListN.{length}
 use Rattle.laws.specs.Sets.{unmet}
 use Rattle.net.specs.declared.Behind.{Behind}
-use Rattle.net.specs.Net.{nextFrom, wordAt, arcsIn, meshIn}
+use Rattle.net.specs.Net.{nextOf, arcsIn, meshIn}
 use Rattle.net.specs.Search.{behind}
 use Rattle.cores.specs.Cores.{Stored}
 use Rattle.look.specs.declared.Leg.{Leg}
@@ -90,7 +90,7 @@ inv t k = looped t k .loop .inv
 inside : (t : ℕ) (k : Looked t) → looped t k .loop .i < length (arcsIn (start t k .args .net .now))
 inside t k = omega (arith, inv t k .0, k .before .before .before .before .before .before .loop-test .taken)
 
-next-is : (t : ℕ) (k : Looked t) → k .before .before .before .next .result ≡ wordAt (start t k .args .net .now) (nextFrom + looped t k .loop .i)
+next-is : (t : ℕ) (k : Looked t) → k .before .before .before .next .result ≡ nextOf (start t k .args .net .now) (looped t k .loop .i)
 next-is t k = k .before .before .before .next .ensures
 
 -- what the arc is

@@ -13,16 +13,16 @@ use Rattle.problem.specs.Exposures.{ofArc}
 use Rattle.problem.proofs.TableLaws.{arcs-length}
 use Rattle.net.specs.Net.{metresFrom}
 use Rattle.layout.specs.Spread.{Columns}
-use Rattle.layout.specs.Layout.{arcWords, arcColumn}
+use Rattle.layout.specs.Layout.{linksOf, arcWords, arcColumn}
 use Rattle.layout.proofs.SpreadLaws.{columns-none, columns-more}
 use Rattle.layout.proofs.lay_arcs.Statement.{statement}
 use Rattle.layout.proofs.lay_arcs.Tie as tie
 
--- the words of an arc read, of the arc behind it and of what it is exposed to are those of the arc
-words-are : {a b : Arc} {next n : ℕ} {e : Exposure} → a ≡ b → next ≡ n → e ≡ ofArc a
-    → a .risks ∷ a .metres ∷ a .head ∷ next ∷ (a .tail + 256 * a .span) ∷ e .low ∷ e .high ∷ [] ≡ arcWords b n
-words-are {a} {b} {next} p q r =
-    ap (λ (x : Exposure). a .risks ∷ a .metres ∷ a .head ∷ next ∷ (a .tail + 256 * a .span) ∷ x .low ∷ x .high ∷ []) r ∙ ap₂ arcWords p q
+-- the words of an arc read, of its links and of what it is exposed to are those of the arc
+words-are : {a b : Arc} {next n links : ℕ} {e : Exposure} → a ≡ b → next ≡ n → e ≡ ofArc a → links ≡ linksOf a next
+    → a .risks ∷ a .metres ∷ links ∷ e .low ∷ e .high ∷ [] ≡ arcWords b n
+words-are {a} {b} {next} p q r l =
+    ap₂ (λ (x : Exposure) (w : ℕ). a .risks ∷ a .metres ∷ w ∷ x .low ∷ x .high ∷ []) r l ∙ ap₂ arcWords p q
 
 abbrev Inv-loop : tie.InvT-loop
 Inv-loop net₀ table chain n k₀ net k = (k ≤ n) × Columns k (arcColumn (arcsOf table) chain) 0 metresFrom net₀ net
@@ -41,22 +41,23 @@ next-requires c κs = (omega arith, omega arith)
 
 spread-requires : tie.Need-spread-requires Inv-loop μ-loop
 spread-requires c κs =
-    let l = c .before .before .before .before .before .before .before .before .before .before in
+    let l = c .before .before .before .before .before .before .before .before in
     (omega arith, λ j h. omega (arith, l .loop .inv .1 .size))
 
 add-k : tie.Need-add-k Inv-loop μ-loop
 add-k c =
-    let turn = c .before .before .before .before .before .before .before .before .before .before .before .before in
+    let turn = c .before .before .before .before .before .before .before .before .before .before in
     omega (arith, turn .loop-test .taken, turn .before .before .before .before .before .pre .2)
 
 loop-again : tie.Need-loop-again Inv-loop μ-loop
 loop-again c =
     let put = c .before .before in
-    let own = put .before .before .before .before .before in
-    let next = own .before .before .before in
+    let links = put .before .before .before in
+    let own = links .before .before in
+    let next = own .before in
     let arc = next .before in
     let l = arc .before .before in
-    (omega arith, columns-more (omega arith) (sym (zero-add (l .loop .k))) (words-are (arc .arc-at .ensures) (next .next .ensures) (own .of-arc .ensures)) (l .loop .inv .1) (put .spread .ensures))
+    (omega arith, columns-more (omega (arith, arc .before .loop-test .taken, l .before .before .before .before .pre .2)) (sym (zero-add (l .loop .k))) (words-are (arc .arc-at .ensures) (next .next .ensures) (own .of-arc .ensures) (links .links .ensures)) (l .loop .inv .1) (put .spread .ensures))
 
 same-length : tie.Need-same-length Inv-loop μ-loop
 same-length c = c .before .loop .inv .1 .size
@@ -77,13 +78,9 @@ lay-arcs-spec =
     loop-holds
     arc-at-requires
     next-requires
-    (λ c. omega arith)
-    (λ c. omega arith)
-    (λ c. omega arith)
-    (λ c. omega arith)
     (λ c κs. search needs)
     (λ c. omega arith)
-    (λ c. omega arith)
+    (λ c κs. search needs)
     (λ c. omega arith)
     spread-requires
     add-k

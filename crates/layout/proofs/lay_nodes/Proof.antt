@@ -52,6 +52,7 @@ lay-nodes-spec =
     first-requires
     (λ c. omega arith)
     (λ c. omega arith)
+    (λ c. omega arith)
     (λ c κs. search needs)
     (λ c. omega arith)
     (λ c. omega arith)

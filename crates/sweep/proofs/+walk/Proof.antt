@@ -6,7 +6,7 @@ use native.Mathlib.Omega.{arith}
 use lib.ListN.{length}
 use Rattle.laws.specs.Sets.{unmet}
 use Rattle.net.specs.declared.Behind.{Behind}
-use Rattle.net.specs.Net.{nextFrom, wordAt, arcsIn}
+use Rattle.net.specs.Net.{nextOf, arcsIn}
 use Rattle.net.specs.Search.{behind}
 use Rattle.cores.specs.Cores.{Stored}
 use Rattle.sweep.specs.Run.{UnderWay}
@@ -87,7 +87,7 @@ in-hand t k =
       seen = k .look .ensures;
     }
 
-next-is : (t : ℕ) (k : Looked t) → k .before .before .before .next .result ≡ wordAt (start t k .args .net .now) (nextFrom + turn t k .loop .i)
+next-is : (t : ℕ) (k : Looked t) → k .before .before .before .next .result ≡ nextOf (start t k .args .net .now) (turn t k .loop .i)
 next-is t k = k .before .before .before .next .ensures
 
 -- the arcs ahead get fewer
