@@ -199,9 +199,12 @@ class _Named:
     def _read_risks(self, line):
         if line.take("-"):
             return frozenset()
+        wanted = 'risks, as CHT,PRING, or "-" for none'
+        if line.name_ahead() == "in" and "in" not in self.risks:  # they were left out before "in TRENCH"
+            raise line.expected(wanted)
         risks = []
         while True:
-            name = line.name('risks, as CHT,PRING, or "-" for none')
+            name = line.name(wanted)
             risks.append(_number_of(name, "risk", self.risks))
             _hold_once(risks, quoted(name))
             if not line.take(","):

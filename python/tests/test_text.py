@@ -441,7 +441,7 @@ BY_NAME = (
     ('5: expected the end of the line, found "in"', HEAD + 'trench KENT\nspan LONDON PARIS 1 - "Trunk" in KENT\n'),
     ('5: expected the end of the line, found "inKENT"', HEAD + "trench KENT\nspan LONDON PARIS 1 - inKENT\n"),
     (f'5: {RISKS} the end of the line', HEAD + "trench KENT\nspan LONDON PARIS 1 TUNNEL,\n"),
-    (f'5: {RISK} "in"', HEAD + "trench KENT\nspan LONDON PARIS 1 in KENT\n"),
+    (f'5: {RISKS} "in"', HEAD + "trench KENT\nspan LONDON PARIS 1 in KENT\n"),
     ('4: expected the end of the line, found "span"', HEAD + "arc LONDON PARIS 1 - span 7\n"),
     ("4: expected a site's name, found the end of the line", HEAD + "site\n"),
     ('4: expected a risk\'s name, found "-"', HEAD + "risk -\n"),
