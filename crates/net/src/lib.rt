@@ -8,9 +8,9 @@ ghost use Rattle.problem.specs.Exposures.{ofArc};
 ghost use Rattle.problem.specs.Routes.{arcAt};
 ghost use Rattle.net.specs.Net.{firstFrom, lowerFrom, doorCountAt, spannedAt, wordAt, nextOf, arcsIn, meshIn, doorArc, Net};
 
-// Where the words of each kind begin: as many words as a table can have arcs for the risks, the metres, the links (head, next arc, tail and span in one
-// word) and the two fields of the span of an arc; as many as there are nodes for each field of a node; then the number of arcs, the request, the number
-// of doors, whether there are spans, and the doors.
+// Where the words of each kind begin: as many words as a table can have arcs for the risks, the metres, the links and the two fields of the span of an arc;
+// as many as there are nodes for each field of a node; then the number of arcs, the request, the number of doors, whether there are spans, and the doors.
+// An arc's links are in one word, from the lowest byte on: its head, the next arc of its chain, its tail, and above these its span.
 pub const METRES_FROM: u64 = problem::MOST_IN_TABLE as u64;
 
 const LINKS_FROM: u64 = METRES_FROM + METRES_FROM;
