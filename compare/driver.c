@@ -1,14 +1,15 @@
 /* Calls the library on cases from standard input and writes its answers to standard output.
  *
- * A case: 32-bit little-endian numbers, then the bytes of its input. The first number is the kind: 0 is a plan, and
- * table length, reply length, source, terminal, reach and allowance follow; 1 is a mend, and input length, table size
- * and list size follow. An answer: the numbers returned, 32 bits each (one by a plan; number, table length and list
- * length by a mend), then each whole output buffer as the call left it. An answer is flushed before the next case is
- * read, so a reader who misses one knows which case ended the driver.
+ * A case: 32-bit little-endian numbers, then the bytes of each of its inputs. The first number is the kind: 0 is a
+ * plan, and table length, reply length, source, terminal, reach and allowance follow; 1 is a mend, and input length,
+ * table size and list size follow; 2 is a plan around closed arcs, and the same follows as for a plan, with the closed
+ * set's length behind the table's. An answer: the numbers returned, 32 bits each (one by a plan of either kind; number,
+ * table length and list length by a mend), then each whole output buffer as the call left it. An answer is flushed
+ * before the next case is read, so a reader who misses one knows which case ended the driver.
  *
  * Each case is called in three rounds: with each buffer ending exactly at a page without access, with each beginning
  * exactly after one, and with each at an odd address, or NULL where it is empty. One byte read or written outside them
- * then ends the driver with a message, and so does a changed byte of the input or of the guard on a buffer's open side.
+ * then ends the driver with a message, and so does a changed byte of an input or of the guard on a buffer's open side.
  * Outputs are filled before each call, not alike in all rounds; each byte of them must come out the same in every
  * round, or untouched in every round. The driver knows nothing else of the rules: its reader judges.
  *
@@ -37,7 +38,7 @@ enum {
 };
 
 /* The most that a case of any kind has. */
-enum { BUFFERS = 3, FIELDS = 6, NUMBERS = 3 };
+enum { BUFFERS = 3, FIELDS = 7, NUMBERS = 3 };
 
 enum round { ENDING, BEGINNING, ODD, ROUNDS };
 
@@ -51,11 +52,11 @@ struct buffer {
     uint8_t *room;       /* where it is placed */
     uint8_t *at;         /* its place in this round */
     uint32_t length;
-    uint8_t bytes[MOST]; /* of the input, those that were read; of an output, those that the first round left */
+    uint8_t bytes[MOST]; /* of an input, those that were read; of an output, those that the first round left */
 };
 
 /* The case at hand. */
-static struct buffer buffers[BUFFERS]; /* the input, then the outputs */
+static struct buffer buffers[BUFFERS]; /* the inputs, then the outputs */
 static uint32_t fields[FIELDS];        /* the lengths of the buffers, then what else the call is given */
 static uint32_t numbers[NUMBERS];      /* what the call returned */
 
@@ -78,15 +79,24 @@ static void mend(void)
     numbers[2] = mended.list_len;
 }
 
-enum { PLAN, MEND, KINDS };
+static void plan_around(void)
+{
+    const struct buffer *table = &buffers[0], *closed = &buffers[1], *reply = &buffers[2];
+
+    numbers[0] = feshangul_plan_around(table->at, table->length, closed->at, closed->length, reply->at, reply->length,
+                                       fields[3], fields[4], fields[5], fields[6]);
+}
+
+enum { PLAN, MEND, AROUND, KINDS };
 
 static const struct kind {
-    size_t buffers, fields, numbers; /* how many it has */
-    const char *names[BUFFERS];      /* of its buffers, for messages */
+    size_t inputs, buffers, fields, numbers; /* how many it has; the inputs are among the buffers */
+    const char *names[BUFFERS];              /* of its buffers, for messages */
     void (*call)(void);
 } kinds[KINDS] = {
-    [PLAN] = { 2, 6, 1, { "the table", "the reply" }, plan },
-    [MEND] = { 3, 3, 3, { "the input", "the table", "the list" }, mend },
+    [PLAN] = { 1, 2, 6, 1, { "the table", "the reply" }, plan },
+    [MEND] = { 1, 3, 3, 3, { "the input", "the table", "the list" }, mend },
+    [AROUND] = { 2, 3, 7, 1, { "the table", "the closed set", "the reply" }, plan_around },
 };
 
 static const struct kind *kind; /* of the case at hand */
@@ -167,9 +177,10 @@ static uint8_t filling(uint32_t place, enum round round)
     return round == BEGINNING ? (uint8_t)~byte : byte;
 }
 
-static void lend(struct buffer *b, enum round round)
+static void lend(size_t which, enum round round)
 {
-    int is_input = b == buffers;
+    struct buffer *b = &buffers[which];
+    int is_input = which < kind->inputs;
 
     b->at = placed(b, round);
     for (uint32_t place = 0; place < b->length; place++)
@@ -186,12 +197,12 @@ static void hold_guard(size_t which, enum round round)
             stop(kind->names[which], "has a byte beside it that was written");
 }
 
-static void hold_input(void)
+static void hold_input(size_t which)
 {
-    const struct buffer *input = &buffers[0];
+    const struct buffer *input = &buffers[which];
 
     if (input->length != 0 && memcmp(input->at, input->bytes, input->length) != 0)
-        stop(kind->names[0], "was written to");
+        stop(kind->names[which], "was written to");
 }
 
 static void call_on_small_stack(void)
@@ -223,7 +234,7 @@ static void call_in(enum round round)
 {
     current = round;
     for (size_t i = 0; i < kind->buffers; i++)
-        lend(&buffers[i], round);
+        lend(i, round);
 
     calls++;
     alarm(SECONDS);
@@ -232,14 +243,15 @@ static void call_in(enum round round)
 
     for (size_t i = 0; i < kind->buffers; i++)
         hold_guard(i, round);
-    hold_input();
+    for (size_t i = 0; i < kind->inputs; i++)
+        hold_input(i);
 }
 
 /* Makes the first call and keeps what it left. */
 static void call_first(void)
 {
     call_in(ENDING);
-    for (size_t i = 1; i < kind->buffers; i++)
+    for (size_t i = kind->inputs; i < kind->buffers; i++)
         memcpy(buffers[i].bytes, buffers[i].at, buffers[i].length);
 }
 
@@ -252,7 +264,7 @@ static void call_again(enum round round)
     call_in(round);
     if (memcmp(first, numbers, sizeof first) != 0)
         stop("what is returned", "is not as in the first round");
-    for (size_t i = 1; i < kind->buffers; i++) {
+    for (size_t i = kind->inputs; i < kind->buffers; i++) {
         const struct buffer *b = &buffers[i];
         for (uint32_t place = 0; place < b->length; place++) {
             int untouched = b->bytes[place] == filling(place, ENDING) && b->at[place] == filling(place, round);
@@ -295,8 +307,9 @@ static int read_case(void)
         if (fields[i] > MOST)
             stop(kind->names[i], "is longer than what the driver lends");
     }
-    if (fread(buffers[0].bytes, 1, buffers[0].length, stdin) != buffers[0].length)
-        stop("the case", "is cut off");
+    for (size_t i = 0; i < kind->inputs; i++)
+        if (fread(buffers[i].bytes, 1, buffers[i].length, stdin) != buffers[i].length)
+            stop("the case", "is cut off");
     return 1;
 }
 
@@ -314,7 +327,7 @@ static void write_answer(void)
     for (size_t i = 0; i < kind->numbers; i++)
         for (int byte = 0; byte < 4; byte++)
             putchar((int)(numbers[i] >> 8 * byte & 255));
-    for (size_t i = 1; i < kind->buffers; i++)
+    for (size_t i = kind->inputs; i < kind->buffers; i++)
         fwrite(buffers[i].bytes, 1, buffers[i].length, stdout);
     if (fflush(stdout) != 0)
         stop("the answer", "cannot be written");
@@ -334,8 +347,8 @@ int main(void)
         null_calls += (unsigned long)has_empty_buffer();
         write_answer();
     }
-    fprintf(stderr, "driver: %lu plans, %lu mends, %lu calls (%lu with NULL), no byte touched outside the buffers, "
-            "at most %zu of %d bytes of stack used\n", of_kind[PLAN], of_kind[MEND], calls, null_calls, stack_used(),
-            STACK);
+    fprintf(stderr, "driver: %lu plans, %lu plans around closed arcs, %lu mends, %lu calls (%lu with NULL), no byte "
+            "touched outside the buffers, at most %zu of %d bytes of stack used\n", of_kind[PLAN], of_kind[AROUND],
+            of_kind[MEND], calls, null_calls, stack_used(), STACK);
     return 0;
 }

@@ -1,6 +1,7 @@
 /* A C host in small: writes a span table (mesh A of the rules, each arc in a span of its own), asks for a pair from
- * node 0 to node 3, and prints it in words; then asks once more with an arc that is too long, and prints the refusal;
- * then mends that table, prints what is lost, and plans with what is left. Build it with the release:
+ * node 0 to node 3, and prints it in words; asks for one while arc 1 is closed for works; then asks once more with an
+ * arc that is too long, and prints the refusal; then mends that table, prints what is lost, and plans with what is
+ * left. Build it with the release:
  * cc -std=c99 -I release host/example.c release/libfeshangul.a */
 #include "feshangul.h"
 
@@ -95,12 +96,8 @@ static void print_refusal(uint32_t number)
     }
 }
 
-/* Returns the number that the call returned. */
-static uint32_t plan_and_print(const uint8_t *table, size_t table_len)
+static void print_answer(const uint8_t *table, const uint8_t *reply, uint32_t number)
 {
-    uint8_t reply[FESHANGUL_REPLY_BYTES];
-    uint32_t number = feshangul_plan(table, table_len, reply, sizeof reply, SOURCE, TERMINAL, REACH, ALLOWANCE);
-
     if (number != FESHANGUL_SETTLED && number != FESHANGUL_STOPPED) {
         print_refusal(number);
     } else {
@@ -108,6 +105,28 @@ static uint32_t plan_and_print(const uint8_t *table, size_t table_len)
         print_shared(table, reply);
         print_routes(table, reply);
     }
+}
+
+/* Returns the number that the call returned. */
+static uint32_t plan_and_print(const uint8_t *table, size_t table_len)
+{
+    uint8_t reply[FESHANGUL_REPLY_BYTES];
+    uint32_t number = feshangul_plan(table, table_len, reply, sizeof reply, SOURCE, TERMINAL, REACH, ALLOWANCE);
+
+    print_answer(table, reply, number);
+    return number;
+}
+
+/* The same while an arc is closed. */
+static uint32_t plan_around_and_print(const uint8_t *table, size_t table_len, uint32_t arc)
+{
+    uint8_t reply[FESHANGUL_REPLY_BYTES], closed[FESHANGUL_CLOSED_BYTES] = { 0 };
+
+    feshangul_close(closed, arc);
+    uint32_t number = feshangul_plan_around(table, table_len, closed, sizeof closed, reply, sizeof reply, SOURCE,
+                                            TERMINAL, REACH, ALLOWANCE);
+    printf("arc %lu closed\n", (unsigned long)arc);
+    print_answer(table, reply, number);
     return number;
 }
 
@@ -149,9 +168,10 @@ int main(void)
     put_arc(table, 4, 1, 2, 15, 1000, RISK(4));
 
     int planned = plan_and_print(table, sizeof table) == FESHANGUL_SETTLED;
+    int around = plan_around_and_print(table, sizeof table, 1) == FESHANGUL_SETTLED;
 
     put_arc(table, 2, 0, 2, 13, FESHANGUL_ARC_METRES_MAX + 1, RISK(2));
     int refused = feshangul_reason(plan_and_print(table, sizeof table)) == FESHANGUL_ARC_METRES_RANGE;
     int mended = mend_and_plan(table, sizeof table) == FESHANGUL_SETTLED;
-    return planned && refused && mended ? 0 : 1;
+    return planned && around && refused && mended ? 0 : 1;
 }

@@ -1,4 +1,4 @@
-/* Tests what feshangul.h itself computes: the writers, the readers, a number taken apart, old arc numbers read off a
+/* Tests what feshangul.h itself computes: the writers, the readers, closed sets, a number taken apart, old arc numbers read off a
  * list of changes, and that its version and its limits agree. Prints nothing and returns 0 where all is well; else it
  * names the line that does not hold. */
 #include "feshangul.h"
@@ -49,8 +49,26 @@ static void test_spans(void)
     HOLD(table[FESHANGUL_ARC_TAIL] == 255);
 }
 
+static void test_closed(void)
+{
+    uint8_t closed[FESHANGUL_CLOSED_BYTES + 1] = { 0 };
+
+    HOLD(FESHANGUL_CLOSED_BYTES * 8 == FESHANGUL_ARCS_MAX);
+    feshangul_close(closed, 0);
+    feshangul_close(closed, 11);
+    feshangul_close(closed, FESHANGUL_ARCS_MAX - 1);
+    feshangul_close(closed, 11); /* closed already */
+    HOLD(closed[0] == 1 && closed[1] == 8 && closed[FESHANGUL_CLOSED_BYTES - 1] == 0x80);
+    HOLD(closed[FESHANGUL_CLOSED_BYTES] == 0);
+    uint32_t count = 0;
+    for (uint32_t arc = 0; arc < FESHANGUL_ARCS_MAX; arc++)
+        count += feshangul_is_closed(closed, arc);
+    HOLD(count == 3 && feshangul_is_closed(closed, 11) && !feshangul_is_closed(closed, 12));
+}
+
 static void test_numbers(void)
 {
+    HOLD(feshangul_reason(FESHANGUL_CLOSED_FAULT) == FESHANGUL_CLOSED_FAULT);
     HOLD(feshangul_reason(FESHANGUL_STOPPED) == FESHANGUL_STOPPED);
     HOLD(feshangul_reason(FESHANGUL_NO_ROUTE) == FESHANGUL_NO_ROUTE);
     HOLD(feshangul_reason(20) == FESHANGUL_ARC_NODE_RANGE && feshangul_faulty_arc(20) == 0);
@@ -115,6 +133,7 @@ int main(void)
 {
     test_arcs();
     test_spans();
+    test_closed();
     test_numbers();
     test_reply();
     test_changes();

@@ -3,7 +3,8 @@
  *
  * This header is all that a C or C++ host includes. Fill a span table, call feshangul_plan, look at the number it
  * returns, and where that is 0 or 1 read the reply with the functions at the end. host/example.c does just that.
- * A table from the field that may be faulty goes through feshangul_mend first.
+ * A table from the field that may be faulty goes through feshangul_mend first; spans that are closed for works are
+ * planned around with feshangul_plan_around.
  *
  * Linux on x86-64. Link with `pkg-config --cflags --libs feshangul`, or this header's folder and libfeshangul.a; the
  * library needs memcpy and memset of its host and nothing else.
@@ -24,14 +25,15 @@
 extern "C" {
 #endif
 
-#define FESHANGUL_VERSION "0.5.0"
-#define FESHANGUL_VERSION_NUMBER 500u    /* 10,000 times the first part, and 100 times the second, and the third */
+#define FESHANGUL_VERSION "0.6.0"
+#define FESHANGUL_VERSION_NUMBER 600u    /* 10,000 times the first part, and 100 times the second, and the third */
 
 /* ---- Sizes and limits ------------------------------------------------------------------------------------- */
 
 #define FESHANGUL_ARC_BYTES 16u          /* one arc's record in the table */
 #define FESHANGUL_ARCS_MAX 128u          /* arcs in a table; none is allowed too */
 #define FESHANGUL_TABLE_BYTES_MAX 2048u  /* FESHANGUL_ARCS_MAX records */
+#define FESHANGUL_CLOSED_BYTES 16u       /* a closed set: one bit for each of FESHANGUL_ARCS_MAX arcs */
 #define FESHANGUL_REPLY_BYTES 96u        /* the reply record; a longer buffer keeps its bytes from 96 on */
 #define FESHANGUL_NODE_MAX 31u           /* nodes are 0 to 31 */
 #define FESHANGUL_RISK_MAX 63u           /* risks are 0 to 63 */
@@ -77,6 +79,20 @@ extern "C" {
  * number of threads may call at once, each with a reply buffer of its own and FESHANGUL_STACK_BYTES of stack left. */
 uint32_t feshangul_plan(const uint8_t *table, size_t table_len, uint8_t *reply, size_t reply_len, uint32_t source,
                         uint32_t terminal, uint32_t reach, uint32_t allowance);
+
+/* Plans as feshangul_plan does, over open arcs alone: a closed arc lies on no route and gives no distance. Arcs keep
+ * their numbers, so nothing of the table is edited when a span is closed for works; close both directions of it, and
+ * every cable in its trench. A set that closes nothing gives what feshangul_plan gives, number and bytes; so does one
+ * that closes only arcs that lie on no route within the reach.
+ *
+ * closed, closed_len   FESHANGUL_CLOSED_BYTES bytes, bit k % 8 of byte k / 8 set when arc k is closed; only read, and
+ *                      not overlapping the reply. feshangul_close sets a bit. Bits at or past the table's number of
+ *                      arcs have to be 0.
+ *
+ * All else is as for feshangul_plan. Closed arcs are checked for faults like open ones. */
+uint32_t feshangul_plan_around(const uint8_t *table, size_t table_len, const uint8_t *closed, size_t closed_len,
+                               uint8_t *reply, size_t reply_len, uint32_t source, uint32_t terminal, uint32_t reach,
+                               uint32_t allowance);
 
 /* ---- The mender ------------------------------------------------------------------------------------------- */
 
@@ -172,10 +188,15 @@ static inline uint32_t feshangul_faulty_arc(uint32_t number) { return number / 2
  * longer cannot be planned with, unless as several in a row. */
 #define FESHANGUL_ARC_METRES_RANGE 22u
 
-/* No route leads from source to terminal within the reach. Tell the customer, or ask with a larger reach. */
+/* Only returned by feshangul_plan_around: the closed set is not FESHANGUL_CLOSED_BYTES long, or closes an arc that the
+ * table does not have. See whether it was made for another table, or before arcs were taken out of this one. */
+#define FESHANGUL_CLOSED_FAULT 16u
+
+/* No route leads from source to terminal within the reach, over open arcs. Tell the customer, or ask with a larger
+ * reach. */
 #define FESHANGUL_NO_ROUTE 10u
 
-/* Only printed by the program `routes`, never returned by feshangul_plan: its input does not begin with a request.
+/* Only printed by the program `routes`, never returned by a call: its input does not begin with a request.
  * Mend whatever wrote the input. */
 #define FESHANGUL_INPUT_FAULT 12u
 
@@ -253,9 +274,24 @@ static inline uint32_t feshangul_span(const uint8_t *table, uint32_t arc)
     return feshangul_u16(table + arc * FESHANGUL_ARC_BYTES + FESHANGUL_ARC_SPAN);
 }
 
+/* ---- A writer and a reader of closed sets --------------------------------------------------------------------
+ *
+ * A set begins as FESHANGUL_CLOSED_BYTES zeros, which close nothing. `arc` is at most FESHANGUL_ARCS_MAX - 1. */
+
+static inline void feshangul_close(uint8_t *closed, uint32_t arc)
+{
+    closed[arc / 8] = (uint8_t)(closed[arc / 8] | 1u << arc % 8);
+}
+
+/* 1 where the set closes the arc, else 0 */
+static inline uint32_t feshangul_is_closed(const uint8_t *closed, uint32_t arc)
+{
+    return (uint32_t)closed[arc / 8] >> arc % 8 & 1u;
+}
+
 /* ---- Readers of a reply -------------------------------------------------------------------------------------
  *
- * Each takes the buffer that feshangul_plan has written with number 0 or 1. */
+ * Each takes the buffer that feshangul_plan or feshangul_plan_around has written with number 0 or 1. */
 
 /* FESHANGUL_SETTLED or FESHANGUL_STOPPED */
 static inline uint32_t feshangul_verdict(const uint8_t *reply) { return reply[FESHANGUL_REPLY_VERDICT]; }

@@ -6,19 +6,20 @@ use std::process::{Child, Command, Stdio};
 use std::thread;
 use std::time::Duration;
 
-/// What the driver calls a plan and a mend.
+/// What the driver calls a plan, a mend and a plan around closed arcs.
 const PLAN: u32 = 0;
 pub const MEND: u32 = 1;
+const AROUND: u32 = 2;
 
 /// A call that the driver can make.
 pub trait Call: Sync {
     /// How many numbers it returns.
     const RETURNED: usize;
 
-    /// Its kind, the lengths of its input and outputs, and what else it is given.
+    /// Its kind, the lengths of its inputs and outputs, and what else it is given.
     fn numbers(&self) -> Vec<u32>;
 
-    fn input_bytes(&self) -> &[u8];
+    fn inputs(&self) -> Vec<&[u8]>;
 
     fn output_lengths(&self) -> Vec<usize>;
 }
@@ -28,11 +29,14 @@ impl Call for Case {
 
     fn numbers(&self) -> Vec<u32> {
         let r = &self.request;
-        vec![PLAN, self.table.len() as u32, self.reply_len as u32, r.source, r.terminal, r.reach, r.allowance]
+        let mut numbers = vec![if self.closed.is_some() { AROUND } else { PLAN }];
+        numbers.extend(self.inputs().iter().map(|input| input.len() as u32));
+        numbers.extend([self.reply_len as u32, r.source, r.terminal, r.reach, r.allowance]);
+        numbers
     }
 
-    fn input_bytes(&self) -> &[u8] {
-        &self.table
+    fn inputs(&self) -> Vec<&[u8]> {
+        std::iter::once(&self.table).chain(&self.closed).map(|input| &input[..]).collect()
     }
 
     fn output_lengths(&self) -> Vec<usize> {
@@ -72,7 +76,7 @@ fn start(command: &[String]) -> Child {
 /// What the driver reads.
 fn frame(call: &impl Call) -> Vec<u8> {
     let mut frame: Vec<u8> = call.numbers().iter().flat_map(|number| number.to_le_bytes()).collect();
-    frame.extend(call.input_bytes());
+    call.inputs().iter().for_each(|input| frame.extend(*input));
     frame
 }
 

@@ -1,6 +1,7 @@
 //! The cases that 01 works by hand, with what it or a later request says of each; and a few rows more.
 
-use crate::listing::{answer, answer_to_input, printed, ALLOWANCE_MAX, METRES_MAX, REACH_MAX, REPLY_BYTES};
+use crate::listing::{answer, answer_to_input, printed, ALLOWANCE_MAX, METRES_MAX, REACH_MAX};
+use crate::listing::{CLOSED_BYTES, REPLY_BYTES};
 use crate::mesh::{from_paper, table_bytes, Arc, Case, Request};
 
 const MESH_A: &str = "0: 0,1,1000,{0}; 1: 1,3,4000,{1}; 2: 0,2,4000,{2}; 3: 2,3,1000,{3}; 4: 1,2,1000,{4}";
@@ -29,7 +30,7 @@ fn request(source: u32, terminal: u32, reach: u32, allowance: u32) -> Request {
 }
 
 fn worked(name: &'static str, arcs: &[Arc], request: Request, said: &'static str) -> Worked {
-    Worked { name, case: Case { table: table_bytes(arcs), reply_len: REPLY_BYTES, request }, said }
+    Worked { name, case: Case { table: table_bytes(arcs), closed: None, reply_len: REPLY_BYTES, request }, said }
 }
 
 fn meshes() -> Vec<Worked> {
@@ -94,7 +95,7 @@ fn limits() -> Vec<Worked> {
 fn arc_21_too_long() -> Case {
     let mut arcs = vec![Arc { tail: 0, head: 1, span: 0, metres: 5, risks: 1 }; 22];
     arcs[21].metres = METRES_MAX + 1;
-    Case { table: table_bytes(&arcs), reply_len: REPLY_BYTES, request: request(0, 1, 10_000, 1_000) }
+    Case { table: table_bytes(&arcs), closed: None, reply_len: REPLY_BYTES, request: request(0, 1, 10_000, 1_000) }
 }
 
 /// Which arc is named, and with which of its faults. A span, the last of an arc's numbers here, is none.
@@ -460,7 +461,219 @@ fn short_cuts() -> Vec<Worked> {
     ]
 }
 
-pub fn all() -> Vec<Worked> {
+// ---- Closed arcs (T-06) ----
+
+/// Sixteen times the same byte but for a few, from a place on; each by hand, lowest bit first.
+fn set_but(same: u8, place: usize, bytes: &[u8]) -> Vec<u8> {
+    let mut set = vec![same; CLOSED_BYTES];
+    set[place..place + bytes.len()].copy_from_slice(bytes);
+    set
+}
+
+/// A set of arcs 0 to 7, and later ones where more bytes than one are given.
+fn set(first: &[u8]) -> Vec<u8> {
+    set_but(0, 0, first)
+}
+
+fn around(name: &'static str, arcs: &[Arc], closed: Vec<u8>, request: Request, said: &'static str) -> Worked {
+    let mut row = worked(name, arcs, request, said);
+    row.case.closed = Some(closed);
+    row
+}
+
+/// All rows above once more with nothing closed, and said of them what is said there.
+fn with_nothing_closed() -> Vec<Worked> {
+    let mut rows = without_set();
+    rows.iter_mut().for_each(|row| row.case.closed = Some(set(&[])));
+    rows
+}
+
+/// Of mesh A, whose routes are [0,4,3] 3,000 m, [0,1] 5,000 m and [2,3] 5,000 m.
+fn closed_in_mesh_a() -> Vec<Worked> {
+    let a = |reach, allowance| request(0, 3, reach, allowance);
+    let on = |name, arcs, request, said| around(name, &from_paper(MESH_A), set(&[arcs]), request, said);
+    // [0,1] and [2,3] are left and share nothing, 10,000 m, twice 5,000: step 1 is settled, where it was step 2.
+    let without_4 = "settled; shared 0; floor 0; ranked 1; main [0,1]; standby [2,3]; total 10000";
+    // [0,4,3] with [2,3] shares risk 3, which is on both: floor 1. 8,000 m is more than twice 3,000: J is N.
+    let without_1 = "settled; shared 1; field 8; floor 1; ranked 2; main [0,4,3]; standby [2,3]; total 8000";
+    let stopped = "stopped; shared 1; field 8; floor 1; ranked 1; main [0,4,3]; standby [2,3]; total 8000";
+    // One route is left, with two risks.
+    let without_0 = "settled; shared 2; field 12; floor 2; ranked 1; main [2,3]; standby [2,3]; total 10000";
+    let without_3 = "settled; shared 2; field 3; floor 2; ranked 1; main [0,1]; standby [0,1]; total 10000";
+    vec![
+        on("A with arc 4 closed", 16, a(10_000, 1_000), without_4),
+        on("A2 with arc 4 closed, no longer stopped", 16, a(10_000, 1), without_4),
+        on("A4 with arc 4 closed", 16, a(5_000, 1_000), without_4),
+        on("A5 with arc 4 closed, its only route", 16, a(4_999, 1_000), "refused 10"),
+        on("A with arc 1 closed", 2, a(10_000, 1_000), without_1),
+        on("A2 with arc 1 closed", 2, a(10_000, 1), stopped),
+        on("A with arc 0 closed", 1, a(10_000, 1_000), without_0),
+        on("A with arc 3 closed", 8, a(10_000, 1_000), without_3),
+        on("A with all closed that leave the source, 0 and 2", 1 + 4, a(10_000, 1_000), "refused 10"),
+        on("A with all closed that enter the terminal, 1 and 3", 2 + 8, a(10_000, 1_000), "refused 10"),
+        on("A with all closed, however far the reach", 31, a(REACH_MAX, ALLOWANCE_MAX), "refused 10"),
+    ]
+}
+
+/// Of other meshes: what is left keeps its number and changes its floor, its pair, its steps.
+fn closed_elsewhere() -> Vec<Worked> {
+    let on = |name, mesh: &str, arcs, request, said| around(name, &from_paper(mesh), set(&[arcs]), request, said);
+    let b = request(0, 3, 10_000, 9);
+    let within = |reach, allowance| request(0, 1, reach, allowance);
+    let one_risk = "0: 0,1,1000,{0,5}; 1: 0,1,2000,{1,5}; 2: 0,1,3000,{2}";
+    let detour = "0: 0,2,1000,{0}; 1: 2,1,1000,{1}; 2: 0,1,9000,{2}";
+    let later = "0: 0,1,1000,{0}; 1: 0,1,1000,{1}; 2: 0,1,5000,{2}; 3: 0,1,3000,{0}";
+    let c_0 = "settled; shared 1; field 2; floor 1; ranked 1; main [1]; standby [1]; total 2000";
+    // [0] and [1,4] have the same three risks: [0] with itself shares no more, and is the shortest.
+    let b_2 = "settled; shared 3; field 7; floor 3; ranked 1; main [0]; standby [0]; total 2000";
+    // [1,4] with risks 0, 1 and 2, [2,3,4] with 1, 2 and 3: 5,000 m is more than twice 2,000.
+    let b_0 = "settled; shared 2; field 6; floor 2; ranked 2; main [1,4]; standby [2,3,4]; total 5000";
+    // Without the set no risk is on all. Now risk 5 is on both that are left; 3,000 m is more than twice 1,000.
+    let risk_5 = "settled; shared 1; field 32; floor 1; ranked 2; main [0]; standby [1]; total 3000";
+    // Without the set it is [0,1] twice, 2,000 m each.
+    let longer = "settled; shared 1; field 4; floor 1; ranked 1; main [2]; standby [2]; total 18000";
+    // Without the set [0] with [1] is settled at once. Now the ranking is [0], [3], [2], 1,000, 3,000 and 5,000 m;
+    // [0] with [2] shares nothing, 6,000 m, which is twice 3,000: J is 2.
+    let second = "settled; shared 0; floor 0; ranked 2; main [0]; standby [2]; total 6000";
+    let first = "stopped; shared 0; floor 0; ranked 1; main [0]; standby [2]; total 6000";
+    vec![
+        on("C with arc 0 closed", MESH_C, 1, within(10_000, 1_000), c_0),
+        on("B with arc 2 closed", MESH_B, 4, b, b_2),
+        on("B with arc 0 closed", MESH_B, 1, b, b_0),
+        on("a risk on every open route", one_risk, 4, within(10_000, 1_000), risk_5),
+        on("both arcs of the shortest way closed, the other at the reach", detour, 3, within(9_000, 1_000), longer),
+        on("both arcs of the shortest way closed, the other past the reach", detour, 3, within(8_999, 1), "refused 10"),
+        on("a later J", later, 2, within(10_000, 2), second),
+        on("a later J, past the allowance", later, 2, within(10_000, 1), first),
+    ]
+}
+
+/// So many cables from 0 to 1, cable k with risk k modulo 64; those listed are 1,000 m long, the others 3,000 m.
+fn cables(count: usize, short: &[usize]) -> Vec<Arc> {
+    let metres = |cable| if short.contains(&cable) { 1_000 } else { 3_000 };
+    (0..count).map(|k| Arc { tail: 0, head: 1, span: 0, metres: metres(k), risks: 1 << (k % 64) }).collect()
+}
+
+/// Which bit of which byte stands for an arc.
+fn closed_bits() -> Vec<Worked> {
+    let plain = request(0, 1, 10_000, 1_000);
+    let on = |name, arcs: &[Arc], closed, said| around(name, arcs, closed, plain, said);
+    let (eight, all, even) = (cables(8, &[0, 7]), cables(128, &[8, 120]), cables(128, &[]));
+    // One of two short cables is closed; the other with the first of 3,000 m shares nothing. Their 4,000 m is more than
+    // twice 1,000, and not more than twice 3,000: J is 2. Closing one that is long would leave the two short ones.
+    vec![
+        on("arc 0 of 8, the lowest bit", &eight, set(&[1]), "ranked 2; main [7]; standby [1]; total 4000"),
+        on("arc 7 of 8, the highest bit", &eight, set(&[128]), "ranked 2; main [0]; standby [1]; total 4000"),
+        on("arc 8 of 128", &all, set(&[0, 1]), "ranked 2; main [120]; standby [0]; total 4000"),
+        on("arc 120 of 128", &all, set_but(0, 15, &[1]), "ranked 2; main [8]; standby [0]; total 4000"),
+        // Two cables of 3,000 m are open, which share nothing, and twice 3,000 is their total: J is 1.
+        on("all but 0, 1", &even, set_but(255, 0, &[0xFC]), "ranked 1; main [0]; standby [1]; total 6000"),
+        on("all but 10, 13", &even, set_but(255, 1, &[0xDB]), "ranked 1; main [10]; standby [13]; total 6000"),
+        on("all but 63, 64", &even, set_but(255, 7, &[0x7F, 0xFE]), "ranked 1; main [63]; standby [64]; total 6000"),
+        on("all but 126, 127", &even, set_but(255, 15, &[0x3F]), "ranked 1; main [126]; standby [127]; total 6000"),
+        on("all but 127", &even, set_but(255, 15, &[0x7F]), "shared 1; floor 1; ranked 1; main [127]; standby [127]"),
+        on("all but 0", &even, set_but(255, 0, &[0xFE]), "shared 1; floor 1; ranked 1; main [0]; standby [0]"),
+        on("all of 128", &even, set_but(255, 0, &[]), "refused 10"),
+    ]
+}
+
+/// A span is one whichever of its arcs are closed, and an arc of it is open where its own bit says so.
+fn closed_in_spans() -> Vec<Worked> {
+    let on = |name, mesh: &str, arcs, terminal, said| {
+        around(name, &from_paper(mesh), set(&[arcs]), request(0, terminal, 10_000, 1_000), said)
+    };
+    let three = "0: 0,1,500,{} span 7; 1: 0,1,1000,{0} span 7; 2: 0,1,1000,{1} span 7";
+    let four = &format!("{three}; 3: 0,1,3000,{{2}}");
+    let mixed = "0: 0,1,500,{} span 5; 1: 0,1,1000,{} span 6; 2: 0,1,1000,{} span 5";
+    let both_ways = "0: 0,1,1000,{0,1}; 1: 1,2,1000,{} span 5; 2: 2,3,1000,{0,1}; \
+                     3: 0,2,1000,{2,3}; 4: 2,1,1000,{} span 5; 5: 1,3,1000,{2,3}";
+    // [1] and [2] have span 7 in common, on every route; each with itself its risk as well.
+    let in_7 = "settled; shared 1; field 0; spans 1; floor 1; ranked 1; main [1]; standby [2]; total 2000";
+    // [3] shares nothing with either, so nothing is on all. 4,000 m is more than twice 1,000: J is N = 3.
+    let past_7 = "settled; shared 0; spans 0; floor 0; ranked 3; main [1]; standby [3]; total 4000";
+    let two = "settled; shared 0; spans 0; floor 0; ranked 1; main [1]; standby [2]; total 2000";
+    // [0,5] and [3,2] 2,000 m with risks 0 to 3, and [3,4,5] 3,000 m with 2 and 3, which are on all: floor 2. [3,4,5]
+    // with either shares these; with itself the span as well. 5,000 m is more than twice 2,000: J is N = 3.
+    let back = "settled; shared 2; field 12; spans 0; floor 2; ranked 3; main [0,5]; standby [3,4,5]; total 5000";
+    // [0,5] and [3,2] share all their risks with each other as with themselves.
+    let neither = "settled; shared 4; field 15; spans 0; floor 4; ranked 1; main [0,5]; standby [0,5]; total 4000";
+    // [0,1] and [0,3], 2,000 and 2,600 m: risk 7 and spans 8 and 300 are on both.
+    let in_8 = "settled; shared 3; field 128; spans 2; floor 3; ranked 2; main [0,1]; standby [0,3]; total 4600";
+    vec![
+        on("the first arc of a span closed, the others share it", three, 1, 1, in_7),
+        on("the first arc of a span closed, another goes round it", four, 1, 1, past_7),
+        on("the first arc of one of two spans closed", mixed, 1, 1, two),
+        on("one direction closed, the other open", both_ways, 2, 3, back),
+        on("both directions closed", both_ways, 2 + 16, 3, neither),
+        on("a span on every open route", MESH_RISK_AND_SPAN, 4, 1, in_8),
+    ]
+}
+
+/// Sets that are none: number 16.
+fn sets_that_are_none() -> Vec<Worked> {
+    let plain = request(0, 3, 10_000, 1_000);
+    let a = |name, closed| around(name, &from_paper(MESH_A), closed, plain, "refused 16");
+    let bit_127 = || set_but(0, 15, &[128]);
+    vec![
+        a("a set of no byte", vec![]),
+        a("a set of 15 bytes", vec![0; 15]),
+        a("a set of 17 bytes", vec![0; 17]),
+        a("a set of 65,552 bytes, 16 in its low 16 bits", vec![0; 65_552]),
+        a("a set of 17 bytes, all of them arcs of the table", [set(&[16]), vec![0]].concat()),
+        a("arc 5 of 5", set(&[32])),
+        a("arc 8 of 5", set(&[0, 1])),
+        a("arc 127 of 5", bit_127()),
+        a("arcs 0 to 5 of 5", set(&[63])),
+        a("all arcs of 5", set_but(255, 0, &[])),
+        around("arc 127 of 127", &cables(127, &[]), bit_127(), request(0, 1, 10_000, 1_000), "refused 16"),
+        // The short cable is the last, and closed: two of 3,000 m are the first.
+        around(
+            "arc 127 of 128",
+            &cables(128, &[127]),
+            bit_127(),
+            request(0, 1, 10_000, 1_000),
+            "settled; ranked 1; main [0]; standby [1]; total 6000",
+        ),
+        // Nothing leaves node 3: without a set, or with one, it is 10.
+        around("16 before 10", &from_paper(MESH_A), vec![0; 15], request(3, 0, 10_000, 1_000), "refused 16"),
+        around("10 behind 16", &from_paper(MESH_A), set(&[31]), request(3, 0, 10_000, 1_000), "refused 10"),
+        around("arc 0 of an empty table", &[], set(&[1]), plain, "refused 16"),
+        around("no byte with an empty table", &[], vec![], plain, "refused 16"),
+    ]
+}
+
+/// What is told before 16, of closed arcs too.
+fn faults_before_sets() -> Vec<Worked> {
+    let plain = request(0, 3, 10_000, 1_000);
+    let a = |name, closed, request, said| around(name, &from_paper(MESH_A), closed, request, said);
+    let arc = |tail, head, metres| Arc { tail, head, span: 0, metres, risks: 1 };
+    let behind_one = |name, faulty, closed, said| around(name, &[arc(0, 3, 5), faulty], closed, plain, said);
+    let mut last = cables(128, &[]);
+    last[127].metres = METRES_MAX + 1;
+    let mut cut = a("a torn table, and 17 bytes", vec![0; 17], plain, "refused 3");
+    cut.case.table.truncate(17);
+    let mut short = a("a reply buffer of 95 bytes, and no byte", vec![], plain, "refused 4");
+    short.case.reply_len = 95;
+    vec![
+        around("129 arcs, and 15 bytes", &cables(129, &[]), vec![0; 15], plain, "refused 2"),
+        cut,
+        short,
+        a("source 32, and arc 127 of 5", set_but(0, 15, &[128]), request(32, 3, 10_000, 1_000), "refused 5"),
+        a("source = terminal, and 15 bytes", vec![0; 15], request(3, 3, 10_000, 1_000), "refused 6"),
+        a("a reach too far, and 17 bytes", vec![0; 17], request(0, 3, REACH_MAX + 1, 1_000), "refused 7"),
+        a("no allowance, and no byte", vec![], request(0, 3, 10_000, 0), "refused 8"),
+        behind_one("a closed arc with node 32", arc(0, 32, 5), set(&[2]), "refused 276"),
+        behind_one("a closed arc with equal ends", arc(7, 7, 5), set(&[2]), "refused 277"),
+        behind_one("a closed arc, too long", arc(0, 3, METRES_MAX + 1), set(&[2]), "refused 278"),
+        behind_one("an arc too long, and 15 bytes", arc(0, 3, METRES_MAX + 1), vec![0; 15], "refused 278"),
+        behind_one("an arc too long, and arc 2 of 2", arc(0, 3, METRES_MAX + 1), set(&[4]), "refused 278"),
+        behind_one("a closed arc too long, and arc 2 of 2", arc(0, 3, METRES_MAX + 1), set(&[6]), "refused 278"),
+        around("all of 128 closed, the last too long", &last, set_but(255, 0, &[]), plain, "refused 32534"),
+    ]
+}
+
+/// The rows of calls without a closed set.
+fn without_set() -> Vec<Worked> {
     let mut rows = meshes();
     rows.extend(limits());
     rows.extend(faulty_arcs());
@@ -470,6 +683,18 @@ pub fn all() -> Vec<Worked> {
     rows.extend(spans_and_risks());
     rows.extend(many_spans());
     rows.extend(short_cuts());
+    rows
+}
+
+pub fn all() -> Vec<Worked> {
+    let mut rows = without_set();
+    rows.extend(with_nothing_closed());
+    rows.extend(closed_in_mesh_a());
+    rows.extend(closed_elsewhere());
+    rows.extend(closed_bits());
+    rows.extend(closed_in_spans());
+    rows.extend(sets_that_are_none());
+    rows.extend(faults_before_sets());
     rows
 }
 
@@ -539,7 +764,8 @@ pub fn hold_listing() -> Result<usize, String> {
         let facts = answer(&row.case).facts();
         for said in row.said.split("; ") {
             if !facts.iter().any(|fact| fact == said) {
-                return Err(format!("{}: `{said}` is said, the listing gives {}", row.name, facts.join("; ")));
+                let set = if row.case.closed.is_some() { ", with a closed set" } else { "" };
+                return Err(format!("{}{set}: `{said}` is said, the listing gives {}", row.name, facts.join("; ")));
             }
         }
     }

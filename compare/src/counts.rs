@@ -1,12 +1,12 @@
 //! What the compared cases were: counted from the cases themselves, so that the counts printed are real. Only the
 //! trade's shapes are told by the draw.
 
-use crate::listing::{faults, Answer, Plan};
+use crate::listing::{faults, is_of_an_arc, Answer, Plan};
 use crate::mesh::{Case, ARC_BYTES};
 use crate::trade::{Shape, SHAPES};
 
 /// The numbers of refusals, in order; 9, 11 and 23 have ended, and 20 to 22 come with an arc.
-const REFUSALS: [usize; 12] = [2, 3, 4, 5, 6, 7, 8, 20, 21, 22, 10, 12];
+const REFUSALS: [usize; 13] = [2, 3, 4, 5, 6, 7, 8, 20, 21, 22, 16, 10, 12];
 
 #[derive(Default)]
 pub struct Counts {
@@ -51,7 +51,8 @@ impl Named {
         self.first += usize::from(arc == 0);
         self.last += usize::from(arc + 1 == arcs);
         self.highest = self.highest.max(arc);
-        let faults = faults(case);
+        let mut faults = faults(case);
+        faults.retain(|&fault| is_of_an_arc(fault));
         self.among_faulty += usize::from(faults.iter().any(|fault| fault / 256 != arc));
         self.with_several += usize::from(faults.iter().filter(|&fault| fault / 256 == arc).count() > 1);
     }
@@ -67,7 +68,7 @@ impl Counts {
         }
         if let Some(case) = case {
             self.add_case(case);
-            if answer.number() >= 20 {
+            if is_of_an_arc(answer.number()) {
                 self.named.add(case, answer.number());
             }
             if let Answer::Planned(plan, reply) = answer {

@@ -1,8 +1,10 @@
 //! A difference made small and put on paper.
 
 use crate::ask::Given;
-use crate::listing::{answer, Answer, Plan, REPLY_BYTES};
-use crate::mesh::{arcs_of, arcs_on_paper, number, risks_on_paper, table_bytes, torn_end, Arc, Case, ARC_BYTES};
+use crate::listing::{answer, closed_on, Answer, Plan, CLOSED_BYTES, REPLY_BYTES};
+use crate::mesh::{arcs_of, arcs_on_paper, marked, number, risks_on_paper, set_of, table_bytes, torn_end};
+use crate::mesh::{Arc, Case, ARC_BYTES};
+use std::ops::Range;
 use std::time::{Duration, Instant};
 
 /// So much of a ranking is printed.
@@ -12,6 +14,8 @@ const PATIENCE: Duration = Duration::from_secs(60);
 /// At most so many parts of a table are taken out in turn, so that huge tables are first halved. A table that is mended
 /// has up to so many arcs.
 const PARTS: usize = 256;
+
+const ROUTE_FIELDS: [(&str, usize, usize); 2] = [("arc numbers of main", 32, 64), ("arc numbers of standby", 64, 96)];
 
 const REPLY_FIELDS: [(&str, usize, usize); 14] = [
     ("verdict", 0, 1),
@@ -26,8 +30,8 @@ const REPLY_FIELDS: [(&str, usize, usize); 14] = [
     ("metres of standby", 16, 20),
     ("zero", 20, 24),
     ("shared risks", 24, 32),
-    ("arc numbers of main", 32, 64),
-    ("arc numbers of standby", 64, 96),
+    ROUTE_FIELDS[0],
+    ROUTE_FIELDS[1],
 ];
 
 /// N and J of a case that has a plan.
@@ -54,18 +58,57 @@ fn with_fitting_allowances(former: &Case, smaller: Case) -> Vec<Case> {
     fitting
 }
 
-/// The tables that are left when many arcs are taken out, then fewer, then each.
-pub fn smaller_tables(table: &[u8]) -> Vec<Vec<u8>> {
+/// The arcs to take out of a table: many at once, then fewer, then each.
+fn parts(table: &[u8]) -> Vec<Range<usize>> {
     let arcs = table.len() / ARC_BYTES;
-    let mut tables = Vec::new();
+    let mut parts = Vec::new();
     let mut taken = arcs;
     while taken > 0 && arcs / taken <= PARTS {
-        for place in (0..=arcs - taken).step_by(taken) {
-            tables.push([&table[..place * ARC_BYTES], &table[(place + taken) * ARC_BYTES..]].concat());
-        }
+        parts.extend((0..=arcs - taken).step_by(taken).map(|place| place..place + taken));
         taken /= 2;
     }
-    tables
+    parts
+}
+
+fn table_without(table: &[u8], part: &Range<usize>) -> Vec<u8> {
+    [&table[..part.start * ARC_BYTES], &table[part.end * ARC_BYTES..]].concat()
+}
+
+/// The tables that are left when many arcs are taken out, then fewer, then each.
+pub fn smaller_tables(table: &[u8]) -> Vec<Vec<u8>> {
+    parts(table).iter().map(|part| table_without(table, part)).collect()
+}
+
+/// A set, as long as before, in which the arcs behind those taken out have their new numbers.
+fn set_without(set: &[u8], part: &Range<usize>) -> Vec<u8> {
+    let left = marked(set).into_iter().filter(|arc| !part.contains(arc));
+    let renumbered: Vec<usize> = left.map(|arc| if arc < part.start { arc } else { arc - part.len() }).collect();
+    set_of(set.len(), &renumbered)
+}
+
+fn cases_without_arcs(case: &Case) -> Vec<Case> {
+    let without = |part: &Range<usize>| Case {
+        table: table_without(&case.table, part),
+        closed: case.closed.as_ref().map(|set| set_without(set, part)),
+        ..case.clone()
+    };
+    parts(&case.table).iter().map(without).collect()
+}
+
+/// The case without its set, with one of 16 bytes where it is longer, and with each arc opened.
+fn cases_with_less_closed(case: &Case) -> Vec<Case> {
+    let Some(set) = &case.closed else { return Vec::new() };
+    let with = |set| Case { closed: Some(set), ..case.clone() };
+    let mut cases = vec![case.without_set()];
+    if set.len() > CLOSED_BYTES {
+        cases.push(with(set[..CLOSED_BYTES].to_vec()));
+    }
+    let marked = marked(set);
+    cases.extend(marked.iter().map(|opened| {
+        let others: Vec<usize> = marked.iter().copied().filter(|arc| arc != opened).collect();
+        with(set_of(set.len(), &others))
+    }));
+    cases
 }
 
 /// The table with the same taken off all its arcs, where that changes any.
@@ -86,13 +129,14 @@ fn tables_with_less_on_arcs(table: &[u8]) -> Vec<Vec<u8>> {
     (0..64).filter_map(without_risk).chain(spans.into_iter().filter_map(without_span)).collect()
 }
 
-/// What to try in place of a case: without many arcs, without one, without a risk, without a span, with the plainest
-/// buffer.
+/// What to try in place of a case: without many arcs, without one, with fewer of them closed, without a risk, without a
+/// span, with the plainest buffer.
 pub fn smaller_cases(case: &Case) -> Vec<Case> {
-    let mut cases = Vec::new();
-    for table in smaller_tables(&case.table).into_iter().chain(tables_with_less_on_arcs(&case.table)) {
-        cases.extend(with_fitting_allowances(case, Case { table, ..case.clone() }));
-    }
+    let mut smaller = cases_without_arcs(case);
+    smaller.extend(cases_with_less_closed(case));
+    let with = |table| Case { table, ..case.clone() };
+    smaller.extend(tables_with_less_on_arcs(&case.table).into_iter().map(with));
+    let mut cases: Vec<Case> = smaller.into_iter().flat_map(|smaller| with_fitting_allowances(case, smaller)).collect();
     if case.reply_len > REPLY_BYTES {
         cases.push(Case { reply_len: REPLY_BYTES, ..case.clone() });
     }
@@ -179,10 +223,26 @@ pub fn expected_on_paper(answer: &Answer) -> String {
     }
 }
 
+/// The closed arcs that a reply lies on, and none may (T-06).
+fn closed_in_reply(closed: &[u8], reply: &[u8]) -> String {
+    let mut text = String::new();
+    for (name, from, to) in ROUTE_FIELDS {
+        let on_route = closed_on(&reply[from..to], closed);
+        if !on_route.is_empty() {
+            text += &format!("  {name} that are closed: {}\n", arcs_on_paper(&on_route));
+        }
+    }
+    text
+}
+
 /// What a call gave instead.
-pub fn given_on_paper(expected: &Given, given: &Given) -> String {
-    let number = format!("given: number {}, {} expected\n", given.numbers[0], expected.numbers[0]);
-    let planned = expected.numbers[0] <= 1;
-    let differences = if planned { reply_differences } else { refusal_differences };
-    number + &differences(&expected.outputs[0], &given.outputs[0])
+pub fn given_on_paper(case: &Case, expected: &Given, given: &Given) -> String {
+    let mut text = format!("given: number {}, {} expected\n", given.numbers[0], expected.numbers[0]);
+    let is_planned = |given: &Given| given.numbers[0] <= 1;
+    let differences = if is_planned(expected) { reply_differences } else { refusal_differences };
+    text += &differences(&expected.outputs[0], &given.outputs[0]);
+    if is_planned(given) && case.reply_len >= REPLY_BYTES {
+        text += &closed_in_reply(case.closed_set(), &given.outputs[0]);
+    }
+    text
 }

@@ -1,11 +1,12 @@
 //! Document 01 and the requests read literally: every route is listed and ranked, every pair is judged, and the answer is read off.
 //! Nothing here is clever, so that it can be held against the document line by line.
 
-use crate::mesh::{arcs_of, arcs_on_paper, number, Arc, Case, Request, ARC_BYTES};
+use crate::mesh::{arcs_of, arcs_on_paper, is_marked, marked, number, Arc, Case, Request, ARC_BYTES};
 use std::ops::ControlFlow;
 
 pub const TABLE_BYTES_MAX: usize = 2_048;
 pub const ARCS_MAX: usize = TABLE_BYTES_MAX / ARC_BYTES;
+pub const CLOSED_BYTES: usize = 16;
 pub const REPLY_BYTES: usize = 96;
 pub const NODE_MAX: u32 = 31;
 pub const METRES_MAX: u32 = 2_000_000;
@@ -40,6 +41,7 @@ fn spans_crossed(route: &[u8], arcs: &[Arc]) -> Vec<u16> {
 /// The growth of routes depth first. It gives up when its patience, a number of arcs looked at, is at an end.
 struct Growth<'a> {
     arcs: &'a [Arc],
+    closed: &'a [u8],
     terminal: u8,
     reach: u32,
     patience: usize,
@@ -54,7 +56,8 @@ impl Growth<'_> {
             return ControlFlow::Continue(());
         }
         for (place, arc) in self.arcs.iter().enumerate() {
-            if arc.tail != node || met.contains(&arc.head) {
+            // A closed arc lies on no route (T-06).
+            if arc.tail != node || met.contains(&arc.head) || is_marked(self.closed, place) {
                 continue;
             }
             if self.patience == 0 {
@@ -74,11 +77,11 @@ impl Growth<'_> {
     }
 }
 
-/// All routes in their ranking, or nothing where listing them takes more than `patience` arcs looked at.
-pub fn ranking_within(patience: usize, arcs: &[Arc], request: &Request) -> Option<Vec<Route>> {
+/// All routes over open arcs in their ranking, or nothing where listing them takes more than `patience` arcs looked at.
+pub fn ranking_within(patience: usize, arcs: &[Arc], closed: &[u8], request: &Request) -> Option<Vec<Route>> {
     let source = request.source as u8;
     let mut growth =
-        Growth { arcs, terminal: request.terminal as u8, reach: request.reach, patience, routes: Vec::new() };
+        Growth { arcs, closed, terminal: request.terminal as u8, reach: request.reach, patience, routes: Vec::new() };
     let none = Route { metres: 0, arcs: Vec::new(), risks: 0, spans: Vec::new() };
     if growth.grow(source, &[source], &none).is_break() {
         return None;
@@ -88,10 +91,10 @@ pub fn ranking_within(patience: usize, arcs: &[Arc], request: &Request) -> Optio
 }
 
 /// Holds sound arcs to what lets number 11 go (docs/REQUESTS.md, T-10): whatever the reach, no path has more than 31 arcs
-/// or passes 62,000,000 m. So no number is there for a route that is too long.
+/// or passes 62,000,000 m, also over closed ones. So no number is there for a route that is too long.
 fn hold_no_path_longer(arcs: &[Arc], request: &Request) {
     let endless = Request { reach: u32::MAX, ..*request };
-    let paths = ranking_within(usize::MAX, arcs, &endless).expect("endless patience");
+    let paths = ranking_within(usize::MAX, arcs, &[], &endless).expect("endless patience");
     assert!(paths.iter().all(|path| path.arcs.len() <= 31), "a path has at most 31 arcs");
     assert!(paths.iter().all(|path| path.metres <= REACH_MAX), "no path is longer than the largest reach");
 }
@@ -317,8 +320,18 @@ pub fn arc_checks(arc: &Arc) -> [(u32, bool); 3] {
     ]
 }
 
+/// Whether a number tells a fault of an arc, which it says as well.
+pub fn is_of_an_arc(number: u32) -> bool {
+    (20..=22).contains(&(number % 256))
+}
+
+/// Whether a closed set has a length that is none, or marks an arc past the table (T-06).
+fn is_no_set(set: &[u8], arcs: usize) -> bool {
+    set.len() != CLOSED_BYTES || marked(set).iter().any(|&arc| arc >= arcs)
+}
+
 /// Which numbers apply before any route is looked for, in order: those of the call, then those of each arc, which say
-/// the arc as well.
+/// the arc as well and come of closed arcs too, then that of the closed set.
 pub fn faults(case: &Case) -> Vec<u32> {
     let r = &case.request;
     let of_call = [
@@ -331,9 +344,11 @@ pub fn faults(case: &Case) -> Vec<u32> {
         (8, r.allowance == 0 || r.allowance > ALLOWANCE_MAX),
     ];
     let mut checks = of_call.to_vec();
-    for (place, arc) in arcs_of(&case.table).iter().enumerate() {
+    let arcs = arcs_of(&case.table);
+    for (place, arc) in arcs.iter().enumerate() {
         checks.extend(arc_checks(arc).map(|(number, holds)| (number + 256 * place as u32, holds)));
     }
+    checks.push((16, case.closed.as_ref().is_some_and(|set| is_no_set(set, arcs.len()))));
     checks.iter().filter(|check| check.1).map(|check| check.0).collect()
 }
 
@@ -342,6 +357,19 @@ fn hold_to_answer_before(plan: &Plan, reply: &Reply, allowance: u32) {
     let before = Reply::from_plan(&Plan::new(plan.ranking.clone(), risks_alone), allowance);
     assert!(reply.bytes() == before.bytes(), "without spans the reply is as before");
     assert!(reply.bytes()[5] == 0, "without spans none is common");
+}
+
+/// Holds a ranking to T-06 another way: no route lies on a closed arc, "numbers stay", and where nothing is closed it
+/// is that of before. So it is the ranking over all arcs with every route struck out that a closed one lies on.
+fn hold_to_open_arcs(ranking: &[Route], arcs: &[Arc], closed: &[u8], request: &Request) {
+    let mut of_all = ranking_within(usize::MAX, arcs, &[], request).expect("endless patience");
+    of_all.retain(|route| closed_on(&route.arcs, closed).is_empty());
+    assert!(ranking == of_all, "the routes are those without a closed arc");
+}
+
+/// The arcs of a list that a set marks.
+pub fn closed_on(arcs: &[u8], closed: &[u8]) -> Vec<u8> {
+    arcs.iter().copied().filter(|&arc| is_marked(closed, usize::from(arc))).collect()
 }
 
 pub fn has_spans(arcs: &[Arc]) -> bool {
@@ -354,7 +382,10 @@ pub fn answer(case: &Case) -> Answer {
     }
     let arcs = arcs_of(&case.table);
     hold_no_path_longer(&arcs, &case.request);
-    let ranking = ranking_within(usize::MAX, &arcs, &case.request).expect("endless patience");
+    let ranking = ranking_within(usize::MAX, &arcs, case.closed_set(), &case.request).expect("endless patience");
+    if let Some(closed) = &case.closed {
+        hold_to_open_arcs(&ranking, &arcs, closed, &case.request);
+    }
     if ranking.is_empty() {
         return Answer::Refused(10);
     }
@@ -384,7 +415,7 @@ pub fn case_of_input(input: &[u8]) -> Option<Case> {
         reach: number(&request[4..8]) as u32,
         allowance: number(&request[8..12]) as u32,
     };
-    Some(Case { table: table.to_vec(), reply_len: REPLY_BYTES, request })
+    Some(Case { table: table.to_vec(), closed: None, reply_len: REPLY_BYTES, request })
 }
 
 pub fn answer_to_input(input: &[u8]) -> Answer {

@@ -4,7 +4,8 @@
 //!
 //!   compare listing                        holds the listing itself to the cases that 01 works by hand, and the mender
 //!                                          here to tables mended by hand
-//!   compare calls COUNT SEED COMMAND..     compares those cases and COUNT random calls, through the driver COMMAND
+//!   compare calls COUNT SEED COMMAND..     compares those cases and COUNT random calls, half of them around closed
+//!                                          arcs, through the driver COMMAND
 //!   compare mends COUNT SEED COMMAND..     compares those tables and COUNT random ones, through the driver COMMAND
 //!   compare texts COUNT SEED COMMAND..     compares what the program COMMAND prints for those cases and COUNT inputs
 //!
@@ -13,6 +14,8 @@
 
 mod ask;
 mod cases;
+mod closed_counts;
+mod closed_random;
 mod counts;
 mod difference;
 mod listing;
@@ -24,11 +27,13 @@ mod mender_random;
 mod mesh;
 mod random;
 mod span_counts;
+mod tally;
 mod trade;
 
 use ask::{Answers, Call, Given};
+use closed_counts::ClosedSets;
 use counts::Counts;
-use difference::{expected_on_paper, smaller_cases, smallest};
+use difference::{expected_on_paper, given_on_paper, smaller_cases, smallest};
 use listing::{answer, answer_to_input, case_of_input, printed, Answer};
 use mender::Mend;
 use mender_counts::MenderCounts;
@@ -129,7 +134,7 @@ fn smallest_asked<C: Call + Clone>(
 }
 
 /// Prints what came of a case that was asked for alone; nothing came where the driver stopped.
-fn show_given(answers: &Answers, expected: &Given, on_paper: fn(&Given, &Given) -> String) {
+fn show_given(answers: &Answers, expected: &Given, on_paper: impl Fn(&Given, &Given) -> String) {
     match answers.given.first() {
         None => println!("given: no answer; {}\n", answers.said),
         Some(given) if given == expected => println!("given: the same; it does not differ every time\n"),
@@ -146,32 +151,34 @@ fn expected_of(case: &Case, answer: &Answer) -> Given {
 fn compare_calls(count: u64, seed: u64, command: &[String]) -> bool {
     let mut dice = Dice::new(seed);
     let mut all: Vec<(Case, Option<Shape>)> = cases::all().into_iter().map(|row| (row.case, None)).collect();
-    all.extend((0..count).map(|_| random::case(&mut dice)));
+    all.extend((0..count).map(|_| closed_random::case(&mut dice)));
     let (all, shapes): (Vec<Case>, Vec<Option<Shape>>) = all.into_iter().unzip();
     let worked = all.len() - count as usize;
 
-    let (mut counts, mut spans) = (Counts::default(), PlanSpans::default());
+    let (mut counts, mut spans, mut closed) = (Counts::default(), PlanSpans::default(), ClosedSets::default());
     let compared = compare("calls", seed, command, &all, |place| {
         let answer = answer(&all[place]);
         counts.add(Some(&all[place]), shapes[place], &answer);
         if place >= worked {
             spans.add(&all[place], &answer);
+            closed.add(&all[place], &answer);
         }
         expected_of(&all[place], &answer)
     });
     counts.print();
     spans.print();
+    closed.print();
     if let Some(first) = compared.first {
         show_call(command, &all[first]);
     }
-    spans.has_met_all() && compared.same
+    spans.has_met_all() & closed.has_met_all() && compared.same
 }
 
 fn show_call(command: &[String], case: &Case) {
     let (small, answers) = smallest_asked(command, case, smaller_cases, |case| expected_of(case, &answer(case)));
     let answer = answer(&small);
     print!("\nDIFFERENCE\n{}{}", small.on_paper(), expected_on_paper(&answer));
-    show_given(&answers, &expected_of(&small, &answer), difference::given_on_paper);
+    show_given(&answers, &expected_of(&small, &answer), |expected, given| given_on_paper(&small, expected, given));
 }
 
 // ---- Mends ----

@@ -190,8 +190,8 @@ impl Call for Mend {
         vec![MEND, self.input.len() as u32, self.table_size as u32, self.list_size as u32]
     }
 
-    fn input_bytes(&self) -> &[u8] {
-        &self.input
+    fn inputs(&self) -> Vec<&[u8]> {
+        vec![&self.input]
     }
 
     fn output_lengths(&self) -> Vec<usize> {
@@ -204,7 +204,7 @@ impl Call for Mend {
 /// Whether the planner finds no fault in a table, by its own rules and not by those above.
 pub fn is_clean(table: &[u8]) -> bool {
     let request = Request { source: 0, terminal: 1, reach: REACH_MAX, allowance: ALLOWANCE_MAX };
-    faults(&Case { table: table.to_vec(), reply_len: REPLY_BYTES, request }).is_empty()
+    faults(&Case { table: table.to_vec(), closed: None, reply_len: REPLY_BYTES, request }).is_empty()
 }
 
 /// Whether a record says one of the five reasons, that the arc is lost, and nothing else.

@@ -3,6 +3,8 @@
 pub const ARC_BYTES: usize = 16;
 /// So many arcs of a table are put on paper: one more than the longest input that is mended has.
 const ARCS_SHOWN: usize = 257;
+/// So many arcs of a closed set are put on paper: one more than a set of 16 bytes can mark.
+const MARKS_SHOWN: usize = 129;
 
 /// One record of the span table, whether its fields are in range or not.
 #[derive(Clone, Copy)]
@@ -23,10 +25,13 @@ pub struct Request {
     pub allowance: u32,
 }
 
-/// One call of the entry: the table may be damaged, the buffer too short, the request out of range.
+/// One call of a planning entry: the table may be damaged, the closed set no set, the buffer too short, the request out
+/// of range.
 #[derive(Clone)]
 pub struct Case {
     pub table: Vec<u8>,
+    /// What a call around closed arcs brings (T-06); nothing where it is a call of the entry that knows of none.
+    pub closed: Option<Vec<u8>>,
     pub reply_len: usize,
     pub request: Request,
 }
@@ -76,6 +81,27 @@ pub fn torn_end(table: &[u8]) -> &[u8] {
     table.chunks_exact(ARC_BYTES).remainder()
 }
 
+/// Whether a set has the bit of an arc number, lowest bit first (T-06); bits that it is too short for are not set.
+pub fn is_marked(set: &[u8], arc: usize) -> bool {
+    set.get(arc / 8).is_some_and(|byte| byte >> (arc % 8) & 1 == 1)
+}
+
+/// The arc numbers whose bits are set, rising.
+pub fn marked(set: &[u8]) -> Vec<usize> {
+    (0..8 * set.len()).filter(|&arc| is_marked(set, arc)).collect()
+}
+
+pub fn mark(set: &mut [u8], arc: usize) {
+    set[arc / 8] |= 1 << (arc % 8);
+}
+
+/// The set of so many bytes that marks these arcs.
+pub fn set_of(bytes: usize, arcs: &[usize]) -> Vec<u8> {
+    let mut set = vec![0; bytes];
+    arcs.iter().for_each(|&arc| mark(&mut set, arc));
+    set
+}
+
 /// A line for each arc, and one for a torn end.
 pub fn table_on_paper(table: &[u8]) -> String {
     let arcs = arcs_of(table);
@@ -104,6 +130,14 @@ pub fn arcs_on_paper(arcs: &[u8]) -> String {
     format!("[{}]", names.join(","))
 }
 
+/// The line of a closed set: its length, and the arcs that it marks.
+fn closed_on_paper(set: &[u8]) -> String {
+    let marked = marked(set);
+    let more =
+        if marked.len() > MARKS_SHOWN { format!(" and {} more", marked.len() - MARKS_SHOWN) } else { String::new() };
+    format!("closed set of {} bytes, of arcs {:?}{more}\n", set.len(), &marked[..marked.len().min(MARKS_SHOWN)])
+}
+
 /// Reads the arcs of a mesh as 01 prints it, with a span behind each where it is known,
 /// `0: 0,1,1000,{0}; 1: 1,3,4000,{1} span 7`; for the fixed cases, which are right.
 pub fn from_paper(text: &str) -> Vec<Arc> {
@@ -127,21 +161,32 @@ impl Case {
     pub fn on_paper(&self) -> String {
         let r = &self.request;
         format!(
-            "source {}, terminal {}, reach {}, allowance {}\ntable of {} bytes, reply buffer of {} bytes\n{}",
+            "source {}, terminal {}, reach {}, allowance {}\ntable of {} bytes, reply buffer of {} bytes\n{}{}",
             r.source,
             r.terminal,
             r.reach,
             r.allowance,
             self.table.len(),
             self.reply_len,
+            self.closed.as_ref().map_or(String::new(), |set| closed_on_paper(set)),
             table_on_paper(&self.table)
         )
     }
 
-    /// What the program `routes` reads, where the request fits its record.
+    /// What a call around closed arcs brings; no byte of it where it is the other entry's.
+    pub fn closed_set(&self) -> &[u8] {
+        self.closed.as_deref().unwrap_or_default()
+    }
+
+    /// The same call of the entry that knows of no closed arcs.
+    pub fn without_set(&self) -> Case {
+        Case { closed: None, ..self.clone() }
+    }
+
+    /// What the program `routes` reads, where the request fits its record and no closed set comes with it.
     pub fn input(&self) -> Option<Vec<u8>> {
         let r = &self.request;
-        if r.source > 255 || r.terminal > 255 {
+        if r.source > 255 || r.terminal > 255 || self.closed.is_some() {
             return None;
         }
         let mut input = vec![r.source as u8, r.terminal as u8, 0, 0];

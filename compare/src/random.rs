@@ -290,7 +290,7 @@ fn rename_nodes(dice: &mut Dice, arcs: &mut [Arc]) -> (u32, u32) {
 fn make_listable(dice: &mut Dice, arcs: &mut Vec<Arc>, request: &Request) -> Vec<Route> {
     let most = if dice.percent(3) { MANY } else { FEW };
     loop {
-        match ranking_within(most.patience, arcs, request) {
+        match ranking_within(most.patience, arcs, &[], request) {
             Some(ranking) if ranking.len() <= most.routes => return ranking,
             _ => arcs.remove(dice.below(arcs.len())),
         };
@@ -368,8 +368,24 @@ fn reach(dice: &mut Dice, ranking: &[Route]) -> u32 {
     chosen.min(REACH_MAX)
 }
 
+/// N and J; both are 1 where there is no route, for what is drawn beside them.
+#[derive(Clone, Copy)]
+pub struct Steps {
+    n: usize,
+    pub settled_at: usize,
+}
+
+/// Draws the reach of a request, given all routes that any reach allows; returns the steps over those within it.
+pub fn draw_reach(dice: &mut Dice, request: &mut Request, mut ranking: Vec<Route>) -> Steps {
+    request.reach = reach(dice, &ranking);
+    ranking.retain(|route| route.metres <= request.reach);
+    let n = ranking.len();
+    let settled_at = if n == 0 { 1 } else { Plan::new(ranking, risks_and_spans).settled_at };
+    Steps { n: n.max(1), settled_at }
+}
+
 /// An allowance at or beside N or J, one that is small, or the largest.
-fn allowance(dice: &mut Dice, n: usize, settled_at: usize) -> u32 {
+pub fn allowance(dice: &mut Dice, Steps { n, settled_at }: Steps) -> u32 {
     let at = match dice.below(16) {
         0..=2 => settled_at,
         3..=6 => settled_at - 1,
@@ -399,17 +415,14 @@ fn sound(dice: &mut Dice, shape: Option<Shape>) -> Case {
     loop {
         let (mut arcs, source, terminal) = mesh(dice, shape);
         let mut request = Request { source, terminal, reach: REACH_MAX, allowance: ALLOWANCE_MAX };
-        let mut ranking = make_listable(dice, &mut arcs, &request);
-        request.reach = reach(dice, &ranking);
-        ranking.retain(|route| route.metres <= request.reach);
-        let n = ranking.len();
-        let settled_at = if n == 0 { 1 } else { Plan::new(ranking, risks_and_spans).settled_at };
+        let ranking = make_listable(dice, &mut arcs, &request);
+        let steps = draw_reach(dice, &mut request, ranking);
         // No route, or a pair settled by the first main, says little; most of these are passed over.
-        if settled_at == 1 && dice.percent(70) {
+        if steps.settled_at == 1 && dice.percent(70) {
             continue;
         }
-        request.allowance = allowance(dice, n.max(1), settled_at);
-        return Case { table: table_bytes(&arcs), reply_len: reply_len(dice), request };
+        request.allowance = allowance(dice, steps);
+        return Case { table: table_bytes(&arcs), closed: None, reply_len: reply_len(dice), request };
     }
 }
 
@@ -495,7 +508,7 @@ fn damage(dice: &mut Dice, case: &mut Case) {
 
 // ---- What is compared ----
 
-/// A case, and the trade's shape that its mesh was drawn in, if any.
+/// A case without a closed set, and the trade's shape that its mesh was drawn in, if any.
 pub fn case(dice: &mut Dice) -> (Case, Option<Shape>) {
     let shape = if dice.percent(TRADE_PERCENT) { Some(dice.pick(&SHAPES).0) } else { None };
     let mut case = sound(dice, shape);

@@ -4,40 +4,10 @@
 use crate::listing::{common, has_spans, risks_alone, Answer, Plan, Reply, Route, ARCS_MAX};
 use crate::mender::{changes_of, is_clean, old_numbers, Change, Mend, Mended, PAST};
 use crate::mesh::{arcs_of, Arc, Case, ARC_BYTES};
+use crate::tally::{Tally, MANY};
 
-/// A run of fewer cases may miss something.
-const MANY: usize = 2_000;
 /// As many spans as a risk field has bits.
 const RISKS: usize = 64;
-
-/// How many cases have each of some things.
-#[derive(Default)]
-struct Tally(Vec<(&'static str, usize)>);
-
-impl Tally {
-    /// Each thing by its name, in the same order every time, and whether the case has it.
-    fn add<const THINGS: usize>(&mut self, things: [(&'static str, bool); THINGS]) {
-        if self.0.is_empty() {
-            self.0 = things.map(|(name, _)| (name, 0)).to_vec();
-        }
-        for (count, (_, has)) in self.0.iter_mut().zip(things) {
-            count.1 += usize::from(has);
-        }
-    }
-
-    fn print(&self, title: &str) {
-        let counts: Vec<String> = self.0.iter().map(|(name, count)| format!("{name} {count}")).collect();
-        println!("  {title}: {}", counts.join(", "));
-    }
-
-    /// Tells what no case has; whether there is nothing to tell.
-    fn has_met_all(&self, title: &str) -> bool {
-        for (name, _) in self.0.iter().filter(|count| count.1 == 0) {
-            println!("NOT MET: {title}: {name}");
-        }
-        !self.0.is_empty() && self.0.iter().all(|count| count.1 > 0)
-    }
-}
 
 fn different_spans(arcs: &[Arc]) -> usize {
     let mut spans: Vec<u16> = arcs.iter().map(|arc| arc.span).filter(|&span| span != 0).collect();

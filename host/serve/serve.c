@@ -9,15 +9,17 @@
  *             number returned, then the whole reply buffer.
  *   1, mend   input length, table size, list size, then the input's bytes. The answer: the number returned and the
  *             lengths of the mended table and of the list, then the whole table buffer and the whole list buffer.
+ *   2, around table length, closed length, reply length, source, terminal, reach, allowance, then the table's bytes and
+ *             the closed set's. The answer: as of a plan.
  *
  * Exit status 0 where the input ends between two cases, 1 where it ends within one or the output is closed, 2 where the
  * kind is another or a length is over MOST. */
 #include "feshangul.h"
 
 enum { MOST = 65536 };
-enum { PLAN = 0, MEND = 1 };
+enum { PLAN = 0, MEND = 1, AROUND = 2 };
 
-static uint8_t input[MOST], answer[12 + 2 * MOST];
+static uint8_t input[2 * MOST], answer[12 + 2 * MOST];
 
 /* What the archive asks of a C library. Volatile, so that the compiler does not make either a call of itself. */
 void *memcpy(void *to, const void *from, size_t length)
@@ -111,6 +113,22 @@ static void answer_plan(void)
     write_all(answer, 4 + reply_len);
 }
 
+/* The closed set stands behind the table, as it was read. */
+static void answer_around(void)
+{
+    uint8_t head[28];
+
+    read_all(head, sizeof head);
+    uint32_t table_len = length_at(head), closed_len = length_at(head + 4), reply_len = length_at(head + 8);
+    read_all(input, table_len + closed_len);
+    memset(answer + 4, 0, reply_len);
+    uint32_t number = feshangul_plan_around(input, table_len, input + table_len, closed_len, answer + 4, reply_len,
+                                            feshangul_u32(head + 12), feshangul_u32(head + 16),
+                                            feshangul_u32(head + 20), feshangul_u32(head + 24));
+    feshangul_put_u32(answer, number);
+    write_all(answer, 4 + reply_len);
+}
+
 static void answer_mend(void)
 {
     uint8_t head[12];
@@ -141,6 +159,9 @@ static _Noreturn void serve(void)
             break;
         case MEND:
             answer_mend();
+            break;
+        case AROUND:
+            answer_around();
             break;
         default:
             end(2);

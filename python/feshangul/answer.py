@@ -75,13 +75,15 @@ class Pair:
 
 @dataclass(frozen=True)
 class Refusal:
-    """A request that was refused: the number, the words for it and, where it is about one arc, that arc's number."""
+    """A request that was refused: the number, the words for it and, where it is about one arc, that arc's number and the line
+    where it stands or is closed."""
 
     mesh: Mesh
     request: Request
     number: int
     words: str
     arc: int | None = None
+    line: int | None = None
 
     verdict = "refused"
 
@@ -94,7 +96,8 @@ def plan(mesh, request):
     if not all(0 <= number < 2**32 for number in asked):  # a call would carry another number
         ranges = f"nodes are {rules.NODE_RANGE}, the reach {rules.REACH_RANGE}, the allowance {rules.ALLOWANCE_RANGE}"
         raise InputFault(f"the request has a number that no call can carry: {ranges}")
-    number, data = planner().plan(records.put_table(mesh.arcs), *asked)
+    closed = records.put_closed(mesh.closed) if mesh.closed else None
+    number, data = planner().plan(records.put_table(mesh.arcs), *asked, closed)
     if number not in VERDICTS:
         return _refusal(mesh, request, number)
     return _pair(mesh, request, number, records.get_reply(data))
@@ -103,6 +106,10 @@ def plan(mesh, request):
 def _refusal(mesh, request, number):
     if number % rules.REASONS in rules.ARC_FAULTS:
         return _refusal_for_arc(mesh, request, number)
+    if number == rules.CLOSED_FAULT:
+        return _refusal_for_closed(mesh, request, number)
+    if number == rules.NO_ROUTE and mesh.closed:
+        return Refusal(mesh, request, number, rules.NO_OPEN_ROUTE)
     return Refusal(mesh, request, number, rules.REFUSALS.get(number, "a number that this version does not know"))
 
 
@@ -112,11 +119,20 @@ def _refusal_for_arc(mesh, request, number):
     faults = [rules.arc_fault(record) for record in mesh.arcs[: arc + 1]]
     named = faults.pop() if arc < len(mesh.arcs) else None
     hold_reply(named is not None and named[0] == reason and not any(faults), f"number {number}, which is not that of its arcs")
-    return Refusal(mesh, request, number, f"{_place(arc, mesh.arcs[arc])}: {named[1]}", arc)
+    return _refusal_at(mesh, request, number, named[1], arc, mesh.arcs[arc].line)
 
 
-def _place(arc, record):
-    return f"arc {arc}" if record.line is None else f"arc {arc}, line {record.line}"
+def _refusal_for_closed(mesh, request, number):
+    """The number does not say which closed arc is past the table; the mesh does, and the lowest is told."""
+    past = min((arc for arc in mesh.closed if rules.closed_fault(arc, len(mesh.arcs))), default=None)
+    hold_reply(past is not None, f"number {number}, which is not that of its closed arcs")
+    words = rules.closed_fault(past, len(mesh.arcs))[1]
+    return _refusal_at(mesh, request, number, words, past, mesh.closed_lines.get(past))
+
+
+def _refusal_at(mesh, request, number, words, arc, line):
+    place = f"arc {arc}" if line is None else f"arc {arc}, line {line}"
+    return Refusal(mesh, request, number, f"{place}: {words}", arc, line)
 
 
 def _pair(mesh, request, number, reply):
@@ -138,6 +154,7 @@ def _route(mesh, request, numbers, metres):
     nodes = [request.source]
     for number in numbers:
         hold_reply(number < len(mesh.arcs) and mesh.arcs[number].tail == nodes[-1], f"arc {number} from node {nodes[-1]}")
+        hold_reply(number not in mesh.closed, f"arc {number}, which is closed")
         nodes.append(mesh.arcs[number].head)
     arcs = [mesh.arcs[number] for number in numbers]
     hold_reply(nodes[-1] == request.terminal, f"a route to node {nodes[-1]}")

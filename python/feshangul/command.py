@@ -11,7 +11,7 @@ from dataclasses import replace
 from typing import NamedTuple
 
 from . import __version__, answer, mending, names, records, rules, sheet, text, why
-from .fault import Fault, InputFault, OutputFault, clean, quoted
+from .fault import Fault, InputFault, OutputFault, clean, hint, quoted
 from .line import Line
 from .mesh import Request
 
@@ -80,7 +80,7 @@ def _give_up(stream):
 
 
 def _plan(options):
-    mesh = _asked(options, _read_mesh(options.mesh))
+    mesh = _closed(options, _asked(options, _read_mesh(options.mesh)))
     answers = [answer.plan(mesh, request) for request in mesh.requests]
     status = max(_status(found) for found in answers)
     if options.json:
@@ -135,8 +135,14 @@ def _end(mesh, option, word):
         return _option(option, word, lambda line: line.number("a node", text.BYTE, rules.NODE_RANGE))
     sites = [site.name for site in mesh.sites]
     if word not in sites:
-        raise InputFault(f"{option}: expected a site of the mesh, found {quoted(word)}{text.hint(word, sites)}")
+        raise InputFault(f"{option}: expected a site of the mesh, found {quoted(word)}{hint(word, sites)}")
     return sites.index(word)
+
+
+def _closed(options, mesh):
+    """The mesh with what the command line closes beside what its text does."""
+    arcs = [_option("--closed", word, lambda line: text.read_closed(line, mesh)) for word in options.closed]
+    return mesh.with_closed(frozenset().union(*arcs))
 
 
 def _option(option, word, read):
@@ -201,6 +207,9 @@ def _bytes(options):
     mesh = _asked(options, _read_mesh(options.mesh))
     if len(mesh.requests) != 1:
         raise InputFault(f"{_shown(options.mesh)}: expected one request, found {len(mesh.requests)}: choose by --request")
+    if mesh.closed:  # without them `routes` would plan over what is closed
+        found = f"{len(mesh.closed)}: the bytes that `routes` reads have no place for them"
+        raise InputFault(f"{_shown(options.mesh)}: expected no closed arcs, found {found}")
     return Done(records.put_request(mesh.requests[0]) + records.put_table(mesh.arcs), 0)
 
 
@@ -271,6 +280,8 @@ def _parser():
         description="Plans each request of a mesh: prints the planner's reply as three lines, and then in words.",
     )
     _add_request(plan)
+    closed_help = "close this too, as a line `closed WHAT` of the mesh would; may be given several times"
+    plan.add_argument("--closed", action="append", default=[], metavar="WHAT", help=closed_help)
     plan.add_argument("--json", action="store_true", help="print one JSON object a request, each on a line of its own")
     plan.add_argument("--why", action="store_true", help="tell the least reach at which fewer would be shared")
     plan.set_defaults(run=_plan)

@@ -1,5 +1,7 @@
 """What goes wrong for reasons that a person can mend, and how foreign text is shown in a message."""
 
+import difflib
+
 LONGEST_SHOWN = 40
 
 
@@ -33,3 +35,10 @@ def clean(text):
 def quoted(word):
     """A word as a message shows it, cut where it is long."""
     return f'"{clean(word[:LONGEST_SHOWN])}{"..." if len(word) > LONGEST_SHOWN else ""}"'
+
+
+def hint(name, known):
+    """The known name that was most likely meant, as the end of a message; nothing where none is near."""
+    alike = {one.casefold(): one for one in known}
+    near = difflib.get_close_matches(name.casefold(), alike, 1)
+    return f"; is {quoted(alike[near[0]])} meant?" if near else ""

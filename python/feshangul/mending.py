@@ -15,13 +15,14 @@ from .mesh import Mesh
 @dataclass(frozen=True)
 class Change:
     """An arc that is lost, or a torn end: its old number, the reason (rules.MEND_REASONS), its new number, None for each since
-    what is kept is kept as it was, the line where it stood, None where there are no lines, and words."""
+    what is kept is kept as it was, the line where it stood, None where there are no lines, words, and whether it was closed."""
 
     old: int
     reason: int
     new: int | None
     line: int | None
     words: str
+    closed: bool = False
 
 
 @dataclass(frozen=True)
@@ -89,7 +90,7 @@ def _mended(mesh, sent):
         hold_reply(len(found) % rules.RECORD_BYTES == 0, f"a {what} of {len(found)} bytes")
     kept = _old_numbers(records.get_list(listed), len(table) // rules.RECORD_BYTES)
     changes = _changes(mesh, len(sent) % rules.RECORD_BYTES, kept)
-    mended = _with_arcs(mesh, [mesh.arcs[old] for old in kept])
+    mended = _with_kept(mesh, kept)
     hold_reply(listed == records.put_list(changes), "another list than that of its arcs")
     hold_reply(table == records.put_table(mended.arcs), "another arc than that of its number")
     return Mended(mesh, mended, changes)
@@ -103,14 +104,16 @@ def _changes(mesh, torn, kept):
     if torn:
         reasons.append(rules.torn_reason(torn))
         lines.append(None)
-    return tuple(Change(old, reason[0], None, lines[old], reason[1]) for old, reason in enumerate(reasons) if reason)
+    lost = ((old, *reason) for old, reason in enumerate(reasons) if reason)
+    return tuple(Change(old, reason, None, lines[old], words, old in mesh.closed) for old, reason, words in lost)
 
 
-def _with_arcs(mesh, arcs):
-    """The mesh with no arcs but these, and with those of its lines that still have one."""
+def _with_kept(mesh, kept):
+    """The mesh with no arcs but those with these old numbers, and with those of its lines that still have one."""
+    arcs = [mesh.arcs[old] for old in kept]
     cables = sorted({arc.cable for arc in arcs} - {None})
-    arcs = (replace(arc, cable=None if arc.cable is None else cables.index(arc.cable)) for arc in arcs)
-    return replace(mesh, arcs=tuple(arcs), cables=tuple(mesh.cables[cable] for cable in cables))
+    arcs = [replace(arc, cable=None if arc.cable is None else cables.index(arc.cable)) for arc in arcs]
+    return replace(mesh.with_arcs(kept, arcs), cables=tuple(mesh.cables[cable] for cable in cables))
 
 
 # ---- in words ----
@@ -137,7 +140,7 @@ def _summary(found):
 
 def _changed(change):
     place = f"arc {change.old}" if change.line is None else f"line {change.line}, arc {change.old}"
-    return f"{place}: lost: {change.words}"
+    return f"{place}: lost: {change.words}{'; it was closed' if change.closed else ''}"
 
 
 def _shifted(first_old, last_old, first_new, last_new):

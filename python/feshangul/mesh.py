@@ -66,7 +66,9 @@ class Request:
 @dataclass(frozen=True)
 class Mesh:
     """Arcs by number and the requests asked of them. `named` tells whether sites and risks have names; `cables` has the
-    title of each span or arc line of a named mesh, None where it has none."""
+    title of each span or arc line of a named mesh, None where it has none. `closed` are the numbers of arcs that no route may
+    take; one that no arc has can be among them, for the planner to refuse. `closed_lines` tells where each is closed, as far as
+    lines do; it is for messages, and is no part of what the mesh is."""
 
     arcs: tuple[Arc, ...] = ()
     requests: tuple[Request, ...] = ()
@@ -75,9 +77,29 @@ class Mesh:
     risks: tuple[Risk, ...] = ()
     cables: tuple[str | None, ...] = ()
     trenches: tuple[Trench, ...] = ()
+    closed: frozenset[int] = frozenset()
+    closed_lines: dict[int, int] = field(default_factory=dict, compare=False, repr=False)
 
     def with_requests(self, *requests):
         return replace(self, requests=requests)
+
+    def with_closed(self, numbers, line=None):
+        """The mesh with these arcs closed too, by a line where one says so."""
+        lines = {} if line is None else dict.fromkeys(numbers, line)
+        return replace(self, closed=self.closed.union(numbers), closed_lines=lines | self.closed_lines)
+
+    def with_arcs(self, old_numbers, arcs):
+        """The mesh with no arcs but these, which had these numbers. What is closed follows its arc; a number that no arc has
+        stays as it is, since what it was meant for is not known."""
+        new = {old: number for number, old in enumerate(old_numbers)}
+        new |= {past: past for past in self.closed if past >= len(self.arcs)}
+        closed = frozenset(new[old] for old in self.closed if old in new)
+        lines = {new[old]: line for old, line in self.closed_lines.items() if old in new}
+        return replace(self, arcs=tuple(arcs), closed=closed, closed_lines=lines)
+
+    @property
+    def open_arcs(self):
+        return [arc for number, arc in enumerate(self.arcs) if number not in self.closed]
 
     def site(self, node):
         """A node as people call it, with its short name."""
@@ -119,5 +141,9 @@ class Mesh:
         arc = self.arcs[number]
         first = next(a for a in self.arcs if a.cable == arc.cable)  # both directions have one name
         ends, title = f"{self.sites[first.tail].name}-{self.sites[first.head].name}", self.cables[arc.cable]
-        alike = sorted({a.cable for a in self.arcs if {a.tail, a.head} == {arc.tail, arc.head}})
+        alike = self.cables_between(arc.tail, arc.head)
         return _Named(ends if title or len(alike) == 1 else f"{ends} no. {alike.index(arc.cable) + 1}", title)
+
+    def cables_between(self, one, other):
+        """The lines between two nodes, whichever way they go, in their order: `no. 1` is the first."""
+        return sorted({a.cable for a in self.arcs if {a.tail, a.head} == {one, other}})

@@ -20,10 +20,11 @@ def given(mesh, named, where):
     if fault:
         raise InputFault(f"what the planner refuses cannot be written by name: {fault}")
     if [replace(a, cable=None) for a in named.arcs] == list(mesh.arcs):
-        return replace(named, requests=mesh.requests)  # the same arcs: their lines and titles too
+        # the same arcs: their lines and titles too, but what is closed is no name
+        return replace(named, requests=mesh.requests, closed=mesh.closed, closed_lines={})
     arcs = _paired(mesh.arcs)
     cables = (None,) * (1 + max((a.cable for a in arcs), default=-1))
-    return Mesh(arcs, mesh.requests, True, named.sites, named.risks, cables, named.trenches)
+    return Mesh(arcs, mesh.requests, True, named.sites, named.risks, cables, named.trenches, mesh.closed)
 
 
 def _hold_named(numbers, kind, known, where):
@@ -42,7 +43,8 @@ def _fault(mesh):
     ):
         if holds:
             return rules.REFUSALS[number]
-    faults = ((number, rules.arc_fault(arc)) for number, arc in enumerate(mesh.arcs))
+    faults = [(number, rules.arc_fault(arc)) for number, arc in enumerate(mesh.arcs)]
+    faults += [(number, rules.closed_fault(number, len(mesh.arcs))) for number in sorted(mesh.closed)]
     return next((f"arc {number}: {fault[1]}" for number, fault in faults if fault), None)
 
 
@@ -71,6 +73,19 @@ def with_trenches(mesh):
         if not told and not mesh.trench(number):
             mesh = replace(mesh, trenches=(*mesh.trenches, Trench(_new_name(mesh, number), span=number)))
     return mesh
+
+
+def with_lines(mesh):
+    """The mesh with its arcs line by line as they are written: both directions of a known span on one line, each other arc on
+    a line of its own, since a span line says that its span is known."""
+    lines = []  # the numbers of the arcs of each
+    for cable in range(len(mesh.cables)):
+        numbers = [number for number, arc in enumerate(mesh.arcs) if arc.cable == cable]
+        both = len(numbers) == 2 and is_way_back(*(mesh.arcs[number] for number in numbers))
+        lines += [numbers] if both else [[number] for number in numbers]
+    titles = tuple(mesh.cables[mesh.arcs[numbers[0]].cable] for numbers in lines)
+    arcs = [replace(mesh.arcs[number], cable=cable) for cable, numbers in enumerate(lines) for number in numbers]
+    return replace(mesh.with_arcs([number for numbers in lines for number in numbers], arcs), cables=titles)
 
 
 def _new_name(mesh, number):

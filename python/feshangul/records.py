@@ -1,4 +1,5 @@
-"""Records as bytes, little-endian (docs/FORMATS.md, "Records"): arcs, requests and changes both ways, replies read."""
+"""Records as bytes, little-endian (docs/FORMATS.md, "Records"): arcs, requests and changes both ways, closed sets written,
+replies read."""
 
 from __future__ import annotations
 
@@ -40,6 +41,14 @@ def _put_arc(number, a):
 
 def put_request(r):
     return _REQUEST.pack(r.source, r.terminal, r.spare[0], r.reach, r.allowance, r.spare[1])
+
+
+def put_closed(closed):
+    """A closed set: bit n for arc n, lowest first."""
+    try:
+        return sum(1 << number for number in closed).to_bytes(rules.CLOSED_BYTES, "little")
+    except (OverflowError, ValueError):  # the latter for a negative number
+        raise InputFault(f"an arc is closed whose number no closed set can hold: arcs are {rules.ARC_RANGE}") from None
 
 
 def get_mesh(data, where):

@@ -9,10 +9,12 @@ SPAN_MAX = 65_535  # numbers of spans begin at 1; 0 stands for a span that is no
 SHARED_MAX = RISKS + NODES - 1  # every risk, and a span for each of the 31 arcs that a route has at most
 ALLOWANCE_MAX = 1_000_000
 RECORD_BYTES = 16  # an arc, a request, or a change that the mender lists
+CLOSED_BYTES = ARCS // 8  # a closed set: one bit for each number that an arc may have
 MEND_BYTES_MAX = 4096  # of a table that is mended
 
 # What makes sense in each field, as messages say it; most fields of a record hold more.
 NODE_RANGE = f"0 to {NODES - 1}"
+ARC_RANGE = f"0 to {ARCS - 1}"
 RISK_RANGE = f"0 to {RISKS - 1}"
 METRES_RANGE = f"0 to {ARC_METRES_MAX:,} m"
 SPAN_RANGE = f"0 to {SPAN_MAX:,}"
@@ -22,6 +24,7 @@ ALLOWANCE_RANGE = f"1 to {ALLOWANCE_MAX:,}"
 SETTLED = 0
 STOPPED = 1
 NO_ROUTE = 10
+CLOSED_FAULT = 16
 
 # The faults of an arc; returned as one of these and REASONS times the arc's number.
 ARC_FAULTS = ARC_NODE, ARC_ENDS, ARC_LENGTH = 20, 21, 22
@@ -37,7 +40,9 @@ REFUSALS = {
     8: f"the allowance is not {ALLOWANCE_RANGE}",
     NO_ROUTE: "no route from source to terminal is within reach",
     12: "the spare bytes of the request are not zero",
+    CLOSED_FAULT: f"the closed set is not {CLOSED_BYTES} bytes, or marks an arc past the table",
 }
+NO_OPEN_ROUTE = "no route over open arcs from source to terminal is within reach"  # NO_ROUTE, where some arcs are closed
 
 
 def arc_fault(arc):
@@ -50,6 +55,14 @@ def arc_fault(arc):
     if arc.metres > ARC_METRES_MAX:
         return ARC_LENGTH, f"length {arc.metres:,} m is over {ARC_METRES_MAX:,}"
     return None
+
+
+def closed_fault(number, arcs):
+    """Why a table of so many arcs cannot have this one closed, by number and in words; None where it has it."""
+    if number < arcs:
+        return None
+    has = {0: "no arc", 1: "only arc 0"}.get(arcs, f"only arcs 0 to {arcs - 1}")
+    return CLOSED_FAULT, f"closed, but the table has {has}"
 
 
 # ---- mending ----

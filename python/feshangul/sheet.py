@@ -1,11 +1,13 @@
 """An answer as text: the lines that the program `routes` prints, a sheet in words, and JSON."""
 
+from itertools import groupby
+
 from . import rules
 from .answer import Pair
 
 
 def lines(answer):
-    """What `routes` prints for the same request (docs/FORMATS.md)."""
+    """What `routes` prints for the same request (docs/FORMATS.md), or would around closed arcs, which it does not read."""
     if not isinstance(answer, Pair):
         return f"refused {answer.number}\n"
     text = f"{answer.verdict} {answer.shared} {answer.floor} {answer.ranked}\n"
@@ -19,7 +21,7 @@ def lines(answer):
 
 def words(answer):
     """The sheet: what a planner asks of an answer, in words."""
-    text = _asked(answer)
+    text = _asked(answer) + _closed(answer.mesh)
     if not isinstance(answer, Pair):
         return text + f"Refused, number {answer.number}: {answer.words}.\n" + _remedy(answer)
     text += _verdict(answer) + _shared(answer) + _floor(answer) + _met(answer)
@@ -37,9 +39,28 @@ def _asked(answer):
     return f"From {mesh.site(r.source)} to {mesh.site(r.terminal)}, each route within {r.reach:,} m{no_limit}.\n"
 
 
+def _closed(mesh):
+    """What is closed; both directions of a line at once. It stands on the sheet of a refusal too: it may be the reason."""
+    if not mesh.closed:
+        return ""
+    arcs = groupby(sorted(mesh.closed), lambda n: mesh.arcs[n].cable if mesh.named and n < len(mesh.arcs) else f"arc {n}")
+    return f"Closed, and so on no route: {'; '.join(_closing(mesh, *numbers) for _, numbers in arcs)}.\n"
+
+
+def _closing(mesh, number, *way_back):
+    """An arc that is closed, or both arcs of a line."""
+    if number >= len(mesh.arcs):
+        return f"arc {number}, which is past the table"
+    if way_back:
+        return f"{_line(mesh, number)}, arcs {' and '.join(map(str, (number, *way_back)))}"
+    arc = mesh.arcs[number]
+    way = f"from {mesh.short_site(arc.tail)} to {mesh.short_site(arc.head)}"
+    return f"{_by(mesh, number)} {way}"
+
+
 def _remedy(refusal):
     """What mends a faulty arc."""
-    return "" if refusal.arc is None else "`feshangul mend` takes such arcs out.\n"
+    return "`feshangul mend` takes such arcs out.\n" if refusal.number % rules.REASONS in rules.ARC_FAULTS else ""
 
 
 def _verdict(pair):
@@ -82,7 +103,7 @@ def _floor(pair):
     if pair.floor == pair.shared:
         return f"{every}{', and so in every pair' if pair.floor else ''}: {_common(pair)}.\n"
     if not pair.floor:
-        return f"{every}: no risk and no {'span' if all(a.span for a in pair.mesh.arcs) else 'known span'}.\n"
+        return f"{every}: no risk and no {'span' if all(a.span for a in pair.mesh.open_arcs) else 'known span'}.\n"
     # The reply has their number alone: of which kind they are can be told where only one kind is shared.
     kinds = [kind for kind, shared in (("risk", pair.shared_risks), ("span", pair.shared_spans)) if shared]
     return f"{every}, and so in every pair: {_counted(pair.floor, *kinds)}.\n"
@@ -111,12 +132,17 @@ def _route(role, pair, route):
 
 
 def _by(mesh, number):
-    """What a route goes by between two sites. A line that has a span to itself has its name too, so that is not said twice."""
+    """What a route goes by between two sites."""
     span = mesh.arcs[number].span
     if mesh.named:
-        within = f" in {mesh.span(span)}" if mesh.trench(span) else ""
-        return f"{mesh.cable(number)}{within}, arc {number}"
+        return f"{_line(mesh, number)}, arc {number}"
     return f"arc {number}" + (f" in span {span}" if span else "")
+
+
+def _line(mesh, number):
+    """The line of an arc in a mesh by name. One that has a span to itself has its name too, so that is not said twice."""
+    span = mesh.arcs[number].span
+    return mesh.cable(number) + (f" in {mesh.span(span)}" if mesh.trench(span) else "")
 
 
 def _counted(number, *things):
@@ -136,10 +162,10 @@ def data(answer):
         "to": _site(mesh, r.terminal),
         "reach": r.reach,
         "allowance": r.allowance,
+        "closed": [_arc(mesh, n) for n in sorted(mesh.closed)],
     }
     if not isinstance(answer, Pair):
-        line = None if answer.arc is None else mesh.arcs[answer.arc].line
-        return found | {"words": answer.words, "arc": answer.arc, "line": line}
+        return found | {"words": answer.words, "arc": answer.arc, "line": answer.line}
     shared = {
         "count": answer.shared,
         "span_count": len(answer.shared_spans),
@@ -183,6 +209,8 @@ def _route_data(mesh, route):
 
 
 def _arc(mesh, number):
+    if number >= len(mesh.arcs):  # closed, and for that refused
+        return {"number": number} | dict.fromkeys(("name", "title", "span", "from", "to", "metres", "risks"))
     arc = mesh.arcs[number]
     cable = mesh.named_cable(number) if mesh.named else None
     return {

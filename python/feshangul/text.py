@@ -1,10 +1,11 @@
 """Meshes as people write them, by number or by name, and back (docs/MESHES.md)."""
 
-import difflib
+from contextlib import contextmanager
 from dataclasses import replace
 
 from . import names, rules
-from .fault import InputFault, quoted
+from .closings import Between, InTrench, Numbers, closings_of
+from .fault import InputFault, hint, quoted
 from .line import Line
 from .mesh import Arc, Mesh, Request, Risk, Site, Trench
 
@@ -13,7 +14,8 @@ BYTE = 2**8 - 1
 TWO_BYTES = 2**16 - 1
 FOUR_BYTES = 2**32 - 1
 
-KINDS = ("site", "risk", "trench", "span", "arc", "request")
+KINDS = ("site", "risk", "trench", "span", "arc", "request")  # each tells that a mesh is by name; `closed` does not
+NAMED_KINDS = (*KINDS[:-1], "closed", KINDS[-1])
 
 
 def read(text, where):
@@ -24,28 +26,68 @@ def read(text, where):
         line = Line(whole)
         if line.is_empty():
             continue
-        try:
+        with _told_at(where, number):
             if reader is None:
                 reader = _Named() if line.name_ahead() in KINDS else _Numbered()
             reader.read(line, number)
-        except InputFault as fault:
-            raise InputFault(f"{where} line {number}: {fault}") from None
     if reader is None:
         raise InputFault(f"{where} line {number}: expected a mesh, found the end of the file")
-    return reader.mesh()
+    mesh = reader.mesh()
+    for number, closing in reader.closings:  # only now, since what they close may stand below them
+        with _told_at(where, number):
+            mesh = _closed_by(mesh, closing, number)
+    return mesh
 
 
-# ---- by number: a request line, then one arc a line ----
+@contextmanager
+def _told_at(where, number):
+    """Puts the line before the words of a fault."""
+    try:
+        yield
+    except InputFault as fault:
+        raise InputFault(f"{where} line {number}: {fault}") from None
+
+
+def _closed_by(mesh, closing, number):
+    """The mesh with what a line closes. What is closed already is more likely a slip of the pen for something else."""
+    arcs = _arcs_of(mesh, closing)
+    again = next((arc for arc in arcs if arc in mesh.closed), None)
+    if again is not None:
+        raise InputFault(f"{mesh.cable(again)} is closed on line {mesh.closed_lines[again]} already")
+    return mesh.with_closed(arcs, number)
+
+
+def _arcs_of(mesh, closing):
+    arcs = closing.arcs(mesh)
+    if not arcs:
+        raise InputFault(closing.missing(mesh))
+    return arcs
+
+
+def read_closed(line, mesh):
+    """The arcs that are closed by what could stand behind `closed` in the text of a mesh."""
+    if not mesh.named:
+        return _arcs_of(mesh, _read_closed_numbers(line))
+    sites, trenches = ([named.name for named in known] for known in (mesh.sites, mesh.trenches))
+    return _arcs_of(mesh, _read_closed_names(line, sites, trenches))
+
+
+# ---- by number: a request line, then one arc a line, and lines that close some ----
 
 
 class _Numbered:
     def __init__(self):
         self.request = None
         self.arcs = []
+        self.closings = []  # each with its line
 
     def read(self, line, number):
         if self.request is None:
             self.request = _read_request(line)
+        elif line.name_ahead() == "closed":
+            line.take("closed")
+            self.closings.append((number, _read_closed_numbers(line)))
+            line.end()
         else:
             self.arcs.append(_read_arc(line, len(self.arcs), number))
 
@@ -74,7 +116,7 @@ def _read_request(line):
 
 def _read_arc(line, arc, number):
     # An arc's number is its position. It is written all the same, so that a lost or doubled line is noticed.
-    wrong = line.expected(f"arc number {arc}")
+    wrong = line.expected(f'arc number {arc}, or "closed"')
     try:
         if line.number("", FOUR_BYTES) != arc:
             raise wrong
@@ -102,20 +144,29 @@ def _read_risk_numbers(line):
     risks = []
     while True:
         risks.append(line.number("a risk", rules.RISKS - 1, rules.RISK_RANGE))
-        _hold_once(risks, str(risks[-1]))
+        _hold_once("risk", risks, str(risks[-1]))
         if line.take("}"):
             return frozenset(risks)
         if not line.take(","):
             raise line.expected('"," or "}"')
 
 
-def _hold_once(risks, last):
+def _read_closed_numbers(line):
+    numbers = []
+    while True:
+        numbers.append(line.number("a closed arc", rules.ARCS - 1, rules.ARC_RANGE))
+        _hold_once("closed arc", numbers, str(numbers[-1]))
+        if not line.take(","):
+            return Numbers(tuple(numbers))
+
+
+def _hold_once(kind, found, last):
     """One named twice is more likely a slip of the pen for another than meant."""
-    if risks[-1] in risks[:-1]:
-        raise InputFault(f"expected each risk once, found {last} again")
+    if found[-1] in found[:-1]:
+        raise InputFault(f"expected each {kind} once, found {last} again")
 
 
-# ---- by name: sites, risks, trenches, spans, arcs and requests, each name declared above its first use ----
+# ---- by name: sites, risks, trenches, spans, arcs, what is closed and requests, each name declared above its first use ----
 
 
 class _Named:
@@ -124,11 +175,12 @@ class _Named:
         self.trenches = {}  # by name, in the order of their lines
         self.lines = {}  # where a site, a risk or a trench was declared
         self.arcs, self.cables, self.requests = [], [], []
+        self.closings = []  # each with its line
 
     def read(self, line, number):
         kind = line.name_ahead()
-        if kind not in KINDS:
-            raise line.expected(", ".join(f'"{k}"' for k in KINDS[:-1]) + f' or "{KINDS[-1]}"')
+        if kind not in NAMED_KINDS:
+            raise line.expected(", ".join(f'"{k}"' for k in NAMED_KINDS[:-1]) + f' or "{NAMED_KINDS[-1]}"')
         line.take(kind)
         getattr(self, f"_read_{kind}")(line, number)
         line.end()
@@ -169,9 +221,7 @@ class _Named:
         self._read_arcs(line, number, 1)
 
     def _read_arcs(self, line, number, directions):
-        tail, head = self._site(line), self._site(line)
-        if tail == head:
-            raise InputFault("expected two different sites")
+        tail, head = _read_ends(line, self.sites)
         metres = line.metres("the length", rules.ARC_METRES_MAX, rules.METRES_RANGE)
         risks = self._read_risks(line)
         if len(self.arcs) + directions > rules.ARCS:
@@ -186,9 +236,7 @@ class _Named:
         for both directions, and none for one alone, whose way back may lie in the same."""
         if line.name_ahead() != "in":
             return self._next_span() if directions == 2 else 0
-        line.take("in")
-        name = line.name("a trench")
-        _hold_declared(name, "trench", self.trenches)
+        name = _read_trench(line, self.trenches)
         if not self.trenches[name].span:
             self.trenches[name] = replace(self.trenches[name], span=self._next_span())
         return self.trenches[name].span
@@ -206,14 +254,15 @@ class _Named:
         while True:
             name = line.name(wanted)
             risks.append(_number_of(name, "risk", self.risks))
-            _hold_once(risks, quoted(name))
+            _hold_once("risk", risks, quoted(name))
             if not line.take(","):
                 return frozenset(risks)
 
+    def _read_closed(self, line, number):
+        self.closings.append((number, _read_closed_names(line, self.sites, self.trenches)))
+
     def _read_request(self, line, _number):
-        source, terminal = self._site(line), self._site(line)
-        if source == terminal:
-            raise InputFault("expected two different sites")
+        source, terminal = _read_ends(line, self.sites)
         given = {}
         if line.take("reach"):
             given["reach"] = line.metres("the reach", rules.REACH_MAX, rules.REACH_RANGE)
@@ -221,8 +270,37 @@ class _Named:
             given["allowance"] = read_allowance(line)
         self.requests.append(Request(source, terminal, **given))
 
-    def _site(self, line):
-        return _number_of(line.name("a site"), "site", self.sites)
+
+def _read_ends(line, sites, between=""):
+    """Two different sites, by number, with a word between them where one is given."""
+    one = _number_of(line.name("a site"), "site", sites)
+    if between:
+        line.need(between)
+    other = _number_of(line.name("a site"), "site", sites)
+    if one == other:
+        raise InputFault("expected two different sites")
+    return one, other
+
+
+def _read_trench(line, trenches):
+    line.need("in")
+    name = line.name("a trench")
+    _hold_declared(name, "trench", trenches)
+    return name
+
+
+def _read_closed_names(line, sites, trenches):
+    if line.is_empty():
+        raise line.expected('two sites, or "in" and a trench')
+    if line.name_ahead() == "in":
+        return InTrench(_read_trench(line, trenches))
+    one_way = line.name_ahead() == "from"
+    if one_way:
+        line.take("from")
+    one, other = _read_ends(line, sites, "to" if one_way else "")
+    title = line.title()
+    place = line.number("a number", FOUR_BYTES, "1 on") if title is None and line.take("no.") else None
+    return Between(one, other, one_way, title, place)
 
 
 def read_allowance(line):
@@ -243,13 +321,6 @@ def _hold_declared(name, kind, known):
         raise InputFault(f'expected a {kind} that a line "{kind} .." above declares, found {quoted(name)}{hint(name, known)}')
 
 
-def hint(name, known):
-    """The known name that was most likely meant, as the end of a message; nothing where none is near."""
-    alike = {one.casefold(): one for one in known}
-    near = difflib.get_close_matches(name.casefold(), alike, 1)
-    return f"; is {quoted(alike[near[0]])} meant?" if near else ""
-
-
 # ---- and back ----
 
 
@@ -265,16 +336,18 @@ def _write_numbered(mesh):
     for number, a in enumerate(mesh.arcs):
         span = f" span {a.span}" if a.span else ""
         lines.append(f"{number}: {a.tail},{a.head},{a.metres},{braced(a.risks)}{span}")
+    lines += _written_closings(mesh)
     return "\n".join(lines) + "\n"
 
 
 def _write_named(mesh):
-    mesh = names.with_trenches(mesh)
+    mesh = names.with_lines(names.with_trenches(mesh))
     lines = [" ".join(["site", s.name, *_title(s.title), *(f"{degrees:f}" for degrees in s.place or ())]) for s in mesh.sites]
     lines += [" ".join(["risk", r.name, *_title(r.title)]) for r in mesh.risks]
     lines += [" ".join(["trench", t.name, *_title(t.title)]) for t in mesh.trenches]
     for cable, title in enumerate(mesh.cables):
-        lines += _written_cable(mesh, [a for a in mesh.arcs if a.cable == cable], title)
+        lines.append(_written_cable(mesh, [a for a in mesh.arcs if a.cable == cable], title))
+    lines += _written_closings(mesh)
     for r in mesh.requests:
         ends = f"{mesh.sites[r.source].name} {mesh.sites[r.terminal].name}"
         lines.append(f"request {ends} reach {_length(r.reach)} allowance {r.allowance}")
@@ -282,16 +355,15 @@ def _write_named(mesh):
 
 
 def _written_cable(mesh, arcs, title):
-    """One line for both directions of a known span; else a line for each arc, since a span line says that its span is known."""
-    both = len(arcs) == 2 and names.is_way_back(*arcs)
-    return [_written_arc(mesh, "span" if both else "arc", a, title) for a in (arcs[:1] if both else arcs)]
-
-
-def _written_arc(mesh, kind, a, title):
+    a, kind = arcs[0], "span" if len(arcs) == 2 else "arc"
     ends = (mesh.sites[a.tail].name, mesh.sites[a.head].name)
     risks = ",".join(mesh.risks[r].name for r in sorted(a.risks)) or "-"
     trench = mesh.trench(a.span)
     return " ".join([kind, *ends, _length(a.metres), risks, *(("in", trench.name) if trench else ()), *_title(title)])
+
+
+def _written_closings(mesh):
+    return [f"closed {closing.written(mesh)}" for closing in closings_of(mesh)]
 
 
 def _title(title):

@@ -60,9 +60,13 @@ def words(answer):
         return "" if refused else "No reach makes it fewer: the count is 0.\n"
     if better.reach is None:
         if refused:
-            return "No reach brings a route: none leads from one to the other.\n"
+            return f"No reach brings a route: none leads from one to the other{_over_open(answer)}.\n"
         return f"No larger reach shares fewer{' with this allowance' if better.stopped else ''}.\n"
     more = f"{better.reach:,} m, {better.reach - answer.request.reach:,} m more"
     if refused:
         return f"The least reach with a route is {more}.\n"
     return f"The least reach at which fewer are shared is {more}: {better.shared} then.\n"
+
+
+def _over_open(answer):
+    return " over open arcs" if answer.mesh.closed else ""

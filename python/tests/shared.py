@@ -146,6 +146,13 @@ def _small_arc(rng, nodes):
     return Arc(*rng.sample(range(nodes), 2), rng.randrange(0, 4000, 500), risks, rng.choice((0, 0, 1, 2, 256, 65535)))
 
 
+def partly_closed(rng, mesh):
+    """The mesh with some of its arcs closed, few or many."""
+    share = rng.choice((0.1, 0.2, 0.5))
+    closed = [number for number in range(len(mesh.arcs)) if rng.random() < share]
+    return mesh.with_closed(closed or [rng.randrange(len(mesh.arcs))])
+
+
 def damaged(rng, mesh):
     """The mesh with one thing that the planner refuses."""
     (request,) = mesh.requests
@@ -159,8 +166,8 @@ def damaged(rng, mesh):
 
 
 def routes(mesh, request):
-    """Every route of the mesh, whatever its length, in the order of their ranking: metres, arcs and what it carries, which
-    are the risks and the known spans of its arcs."""
+    """Every route of the mesh over its open arcs, whatever its length, in the order of their ranking: metres, arcs and what it
+    carries, which are the risks and the known spans of its arcs."""
     found = []
 
     def go_on(node, met, arcs):
@@ -169,7 +176,7 @@ def routes(mesh, request):
             found.append((metres, arcs, frozenset().union(*(_carried(mesh.arcs[number]) for number in arcs))))
             return
         for number, arc in enumerate(mesh.arcs):
-            if arc.tail == node and arc.head not in met:
+            if arc.tail == node and arc.head not in met and number not in mesh.closed:
                 go_on(arc.head, met | {arc.head}, (*arcs, number))
 
     go_on(request.source, {request.source}, ())

@@ -146,6 +146,7 @@ class HelpAndVersion(CommandTest):
                     "--to B",
                     "--reach LENGTH",
                     "--allowance N",
+                    "--closed WHAT",
                     "--json",
                     "--why",
                     "0 settled, 1 stopped, 2 usage or input, 3 refused",
@@ -175,7 +176,7 @@ class HelpAndVersion(CommandTest):
                     self.assertIn(word, help_text)
 
     def test_version_is_that_of_the_header(self):
-        self.assertEqual(run("--version"), Ran(0, b"feshangul 0.5.0\n", b""))
+        self.assertEqual(run("--version"), Ran(0, b"feshangul 0.6.0\n", b""))
         header = (RELEASE / "feshangul.h").read_text(encoding="utf-8")
         self.assertIn(f'#define FESHANGUL_VERSION "{feshangul.__version__}"\n', header)
 
@@ -316,6 +317,7 @@ A_JSON = {
     "to": node(3),
     "reach": 10000,
     "allowance": 1000,
+    "closed": [],
     "shared": {"count": 0, "span_count": 0, "risks": [], "spans": [], "sites": [], "uncounted_arcs": []},
     "floor": 0,
     "ranked": 2,
@@ -378,6 +380,7 @@ ONE_WAY_JSON = {
     "to": D,
     "reach": 9000,
     "allowance": 1000,
+    "closed": [],
     "shared": {
         "count": 4,
         "span_count": 2,
@@ -422,10 +425,10 @@ class Json(CommandTest):
 
     def test_a_refusal_has_words_and_where_it_is_one_arcs_fault_its_place(self):
         faulty = self.file("from 0 to 1 reach 10 allowance 1\n0: 0,1,5,{}\n\n1: 7,7,5,{}\n")
-        asked = {"from": node(0), "to": node(1), "reach": 10, "allowance": 1}
+        asked = {"from": node(0), "to": node(1), "reach": 10, "allowance": 1, "closed": []}
         words = "arc 1, line 4: both ends are node 7"
         self.assertEqual(self.fields(faulty), [{"verdict": "refused", "number": 277, **asked, "words": words, "arc": 1, "line": 4}])
-        asked = {"from": node(0), "to": node(3), "reach": 2999, "allowance": 1000}
+        asked = {"from": node(0), "to": node(3), "reach": 2999, "allowance": 1000, "closed": []}
         words = "no route from source to terminal is within reach"
         self.assertEqual(
             self.fields(A, "--reach", "2999"),
@@ -663,6 +666,15 @@ PLACES_IN_A_MESH = (
     HEAD + 'span A B 1 R "" {}',
     HEAD + "span A B 1 R in {}",
     HEAD + "trench T\narc A B 1 - in T {}",
+    HEAD + "closed {}",
+    HEAD + "closed A {}",
+    HEAD + "closed from {}",
+    HEAD + "closed from A {}",
+    HEAD + "closed from A to {}",
+    HEAD + "closed in {}",
+    HEAD + "arc A B 1 -\nclosed A B {}",
+    HEAD + "arc A B 1 -\nclosed A B no. {}",
+    HEAD + 'arc A B 1 -\nclosed A B "{}"',
     HEAD + "request A {}",
     HEAD + "request A B reach {}",
     HEAD + "request A B allowance {}",
@@ -675,6 +687,9 @@ PLACES_IN_A_MESH = (
     "from 0 to 1 reach 1 allowance 1 {}",
     "from 0 to 1 reach 1 allowance 1 spare {}",
     "from 0 to 1 reach 1 allowance 1\n{}",
+    "from 0 to 1 reach 1 allowance 1\nclosed {}",
+    "from 0 to 1 reach 1 allowance 1\nclosed 0 {}",
+    "from 0 to 1 reach 1 allowance 1\nclosed 0,{}",
     "from 0 to 1 reach 1 allowance 1\n0: 0,{}",
     "from 0 to 1 reach 1 allowance 1\n0: 0,1,{}",
     "from 0 to 1 reach 1 allowance 1\n0: 0,1,1,{{{}",
@@ -692,6 +707,7 @@ PLACES_ON_THE_LINE = (
     "plan MESH --reach {}",
     "plan MESH --allowance {}",
     "plan MESH --request {}",
+    "plan MESH --closed {}",
     "plan MESH --json={}",
     "mend MESH {}",
     "mend MESH --{}",
@@ -750,7 +766,7 @@ class HostileWords(CommandTest):
 
     def test_a_long_word_of_a_mesh_is_cut(self):
         for place in PLACES_IN_A_MESH:
-            if '"{}"' not in place:  # a title may be long
+            if '"{}"' not in place or "closed" in place:  # a title may be long, but has to be one that is there
                 with self.subTest(place):
                     self.assert_short(call("plan", "-", stdin=place.replace("{}", "@" * 5000).encode()))
 

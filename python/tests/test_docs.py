@@ -49,6 +49,21 @@ class Documents(unittest.TestCase):
         ran = call("plan", "-", stdin=faulty.encode())
         self.assertEqual((ran.status, ran.output.decode()), (3, printed))
 
+    def test_the_mesh_with_a_closed_number_past_the_table_in_meshes_prints_what_stands_below_it(self):
+        _, _, _, closed, printed, *_ = blocks("docs/MESHES.md", "from 0 to 3")
+        ran = call("plan", "-", stdin=closed.encode())
+        self.assertEqual((ran.status, ran.output.decode()), (3, printed))
+
+    def test_the_mesh_worked_through_in_meshes_with_a_span_closed_prints_what_is_told_of_it(self):
+        mesh, _, closed, refused, *_ = blocks("docs/MESHES.md", "site LON")
+        for above in ("trench KENT", "request LON"):  # wherever below the sites
+            printed = call("plan", "-", stdin=mesh.replace(above, f"closed LON PAR\n{above}", 1).encode()).output.decode()
+            to_paris, to_london = printed.split("\nrefused 10\n")
+            self.assertTrue(to_paris.startswith("settled 3 3 1\nmain 685 2 4\n"))
+            for sheet in (to_paris, to_london):
+                self.assertEqual(sheet.count(closed), 1)
+            self.assertTrue(to_london.endswith(refused))
+
     def test_the_mesh_mended_in_meshes_becomes_what_stands_below_it(self):
         faulty, printed, command, *_ = blocks("docs/MESHES.md", "from 0 to 2")
         ran = call("mend", "-", stdin=faulty.encode())

@@ -322,6 +322,82 @@ class Named(unittest.TestCase):
         self.assertEqual(text.read(text.write(found.mesh), "mended"), mesh)
 
 
+# ---- what is closed ----
+
+
+class Closed(unittest.TestCase):
+    def test_what_is_closed_follows_its_arc(self):
+        # Arcs 1, 2 and 5 are lost, so 0 stays 0, 3 and 4 become 1 and 2, and 6 becomes 3.
+        mesh = text.read(numbered("0,1,1,{}", "7,7,5,{}", "0,40,5,{}", "0,1,2,{}", "0,1,3,{}", "9,9,5,{}", "0,1,4,{}"), "mesh")
+        for closed, new, lost in (
+            (set(), set(), []),
+            ({0}, {0}, []),
+            ({3, 6}, {1, 3}, []),
+            ({0, 3, 4, 6}, {0, 1, 2, 3}, []),
+            ({1, 4}, {2}, [1]),
+            ({1, 2, 5}, set(), [1, 2, 5]),
+            (set(range(7)), {0, 1, 2, 3}, [1, 2, 5]),
+        ):
+            with self.subTest(closed):
+                found = mending.mend(mesh.with_closed(closed))
+                self.assertEqual((found.mesh.closed, len(found.mesh.arcs)), (new, 4))
+                self.assertEqual([change.old for change in found.changes if change.closed], lost)
+                self.assertEqual(mending.mend(found.mesh).mesh, found.mesh)
+
+    def test_the_same_arcs_of_300_random_meshes_are_closed_after_as_before(self):
+        rng = random.Random(27)
+        seen = Counter()
+        for number in range(300):
+            data = random_table(rng)[:4096]
+            arcs = records.get_table(data[: len(data) // 16 * 16])
+            closed = set(rng.sample(range(min(128, len(arcs))), rng.randrange(1 + min(128, len(arcs)))))
+            found = mending.mend(Mesh(arcs).with_closed(closed))
+            with self.subTest(number):
+                self.assertEqual({found.old_numbers[new] for new in found.mesh.closed}, closed & set(found.old_numbers))
+                lost = {change.old for change in found.changes if change.closed}
+                self.assertEqual(lost, closed - set(found.old_numbers))
+            seen["kept"] += bool(found.mesh.closed)
+            seen["lost"] += bool(lost)
+        self.assertGreater(min(seen.values()), 50)
+
+    def test_a_number_that_no_arc_has_is_left_for_the_planner_to_refuse(self):
+        mesh = text.read(numbered("7,7,5,{}", "0,1,5,{}", "0,1,6,{}") + "closed 3,2,127\n", "mesh")
+        found = mending.mend(mesh)
+        self.assertEqual((found.mesh.closed, found.mesh.closed_lines), ({1, 3, 127}, {1: 5, 3: 5, 127: 5}))
+        refused = feshangul.plan(found.mesh, found.mesh.requests[0])
+        self.assertEqual((refused.number, refused.words), (16, "arc 3, line 5: closed, but the table has only arcs 0 to 1"))
+
+    def test_lines_of_a_mesh_by_name_stay_closed(self):
+        none = frozenset()
+        arcs = [Arc(0, 1, 5, none, 1, cable=0), Arc(1, 1, 5, none, 2, cable=1), Arc(1, 2, 5, none, 9, cable=2)]
+        found = mending.mend(named(*arcs).with_closed({1, 2}))
+        self.assertEqual((found.mesh.closed, found.changes[0].closed), ({1}, True))
+        self.assertTrue(text.write(found.mesh).endswith('arc B C 5m - in T "third"\nclosed in T\n'))
+
+    def test_the_words_tell_a_closed_arc_that_is_lost(self):
+        mesh = text.read(numbered("0,40,5,{}", "0,1,5,{}", "3,3,5,{}") + "closed 0,1\n", "mesh")
+        self.assertEqual(
+            mending.words(mending.mend(mesh)),
+            [
+                "Mended: of 3 arcs 2 are lost.",
+                "line 2, arc 0: lost: head node 40 is over 31; it was closed",
+                "line 4, arc 2: lost: both ends are node 3",
+                "Arc 1 is now arc 0.",
+            ],
+        )
+
+    def test_the_command_prints_what_is_closed_with_its_new_number(self):
+        faulty = numbered("0,1,5,{}", "7,7,5,{}", "0,1,6,{}", "0,1,7,{}") + "closed 3,1\n"
+        clean = numbered("0,1,5,{}", "0,1,6,{}", "0,1,7,{}") + "closed 2\n"
+        told = "# Mended: of 4 arcs 1 is lost.\n# line 3, arc 1: lost: both ends are node 7; it was closed\n"
+        ran = call("mend", "-", stdin=faulty.encode())
+        self.assertEqual(ran, Ran(1, f"{told}# Arcs 2 to 3 are now arcs 1 to 2.\n{clean}".encode(), b""))
+        again = call("mend", "-", stdin=ran.output)
+        self.assertEqual(again, Ran(0, f"# Nothing to mend: all 3 arcs are clean.\n{clean}".encode(), b""))
+        fields = json.loads(call("mend", "-", "--json", stdin=faulty.encode()).output)
+        self.assertEqual(([change["closed"] for change in fields["changes"]], fields["mesh"]), ([True], clean))
+
+
 # ---- damaged replies ----
 
 
@@ -499,7 +575,7 @@ class Served(CommandTest):
             (1, case[:3]),
             (1, case[:15]),
             (1, case[:-1]),
-            (2, struct.pack("<I", 2)),
+            (2, struct.pack("<I", 3)),
             (2, struct.pack("<I", 2**32 - 1) + case),
             (2, struct.pack("<4I", 1, 65537, 16, 16)),
             (2, struct.pack("<4I", 1, 16, 65537, 16)),
@@ -791,7 +867,7 @@ class Json(CommandTest):
                 "arcs": 3,
                 "kept": 2,
                 "changes": [
-                    {"old": 1, "reason": 2, "words": "both ends are node 7", "new": None, "line": 3},
+                    {"old": 1, "reason": 2, "words": "both ends are node 7", "new": None, "line": 3, "closed": False},
                 ],
                 "old_numbers": [0, 2],
                 "mesh": numbered("0,1,5,{}", "0,1,5,{3} span 9"),
@@ -806,7 +882,7 @@ class Json(CommandTest):
     def test_a_table_in_bytes_is_told_in_hexadecimal(self):
         fields = self.fields("--bytes", "-", stdin=DATA)
         self.assertEqual((fields["arcs"], fields["kept"], fields["old_numbers"]), (7, 4, [0, 2, 4, 6]))
-        torn = {"old": 7, "reason": 6, "words": "torn off after 4 of its 16 bytes", "new": None, "line": None}
+        torn = {"old": 7, "reason": 6, "words": "torn off after 4 of its 16 bytes", "new": None, "line": None, "closed": False}
         self.assertEqual(fields["changes"][-1], torn)
         self.assertEqual(bytes.fromhex(fields["table"]), TABLE)
         self.assertNotIn("mesh", fields)

@@ -9,9 +9,9 @@ from feshangul import names, records, text
 from feshangul.fault import InputFault
 from feshangul.mesh import Arc, Request
 
-from .shared import A_HEX, EXAMPLES, example, small_mesh, without_comments
+from .shared import A_HEX, EXAMPLES, example, partly_closed, small_mesh, without_comments
 
-NUMBERED = ("A.txt", "B.txt", "C.txt", "D.txt", "E.txt", "F.txt")
+NUMBERED = ("A.txt", "B.txt", "C.txt", "D.txt", "E.txt", "F.txt", "G.txt")
 
 
 def as_bytes(mesh):
@@ -29,7 +29,8 @@ class Examples(unittest.TestCase):
                 bare = without_comments(example(name))
                 mesh = text.read(example(name), name)
                 self.assertEqual(text.write(mesh), bare)
-                self.assertEqual(text.write(records.get_mesh(as_bytes(mesh), name)), bare)
+                back = records.get_mesh(as_bytes(mesh), name).with_closed(mesh.closed)  # which bytes have no place for
+                self.assertEqual(text.write(back), bare)
 
     def test_europe_is_written_as_it_stands_and_so_is_that_of_its_bytes_with_its_names(self):
         bare = without_comments(example("europe.txt"))
@@ -376,9 +377,9 @@ BY_NUMBER = (
     ('1: expected the allowance from 1 to 1,000,000, found "-1"', "from 0 to 3 reach 1 allowance -1\n"),
     ('1: expected the end of the line, found "0:"', "from 0 to 3 reach 1 allowance 1 0: 0,1,1000,{0}\n"),
     ('1: expected ",", found the end of the line', "from 0 to 3 reach 1 allowance 1 spare 7\n"),
-    ('4: expected arc number 1, found "2:"', REQUEST + "0: 0,1,1000,{0}\n\n2: 1,3,4000,{1}\n"),
-    ('3: expected arc number 1, found "0:"', REQUEST + "0: 0,1,1000,{0}\n0: 1,3,4000,{1}\n"),
-    ('3: expected arc number 1, found "from"', REQUEST + "0: 0,1,1000,{0}\n" + REQUEST),
+    ('4: expected arc number 1, or "closed", found "2:"', REQUEST + "0: 0,1,1000,{0}\n\n2: 1,3,4000,{1}\n"),
+    ('3: expected arc number 1, or "closed", found "0:"', REQUEST + "0: 0,1,1000,{0}\n0: 1,3,4000,{1}\n"),
+    ('3: expected arc number 1, or "closed", found "from"', REQUEST + "0: 0,1,1000,{0}\n" + REQUEST),
     ('2: expected ":", found "0,1,1000,{0}"', REQUEST + "0 0,1,1000,{0}\n"),
     ('2: expected the tail node from 0 to 31, found "256,1,1000,{0}"', REQUEST + "0: 256,1,1000,{0}\n"),
     ('2: expected the head node from 0 to 31, found "-1,1000,{0}"', REQUEST + "0: 0,-1,1000,{0}\n"),
@@ -403,10 +404,10 @@ BY_NUMBER = (
     ('1: expected 0 as spare bytes 2-3, found "65536,0"', REQUEST.rstrip() + " spare 65536,0\n"),
     ('1: expected the end of the line, found "span"', REQUEST.rstrip() + " span 7\n"),
     ('2: expected the end of the line, found "1:"', REQUEST + "0: 0,1,1000,{0} 1: 1,3,4000,{1}\n"),
-    ('131: expected arc number 129, found "x"', REQUEST + "".join(f"{n}: 0,1,1000,{{}}\n" for n in range(129)) + "x\n"),
+    ('131: expected arc number 129, or "closed", found "x"', REQUEST + "".join(f"{n}: 0,1,1,{{}}\n" for n in range(129)) + "x\n"),
     ('1: expected 0 as spare bytes 12-15, found "4294967296"', REQUEST.rstrip() + " spare 0,4294967296\n"),
     (f'1: expected {KINDS}, found "sites"', "sites A\n"),
-    ('2: expected arc number 0, found "site"', REQUEST + "site A\n"),
+    ('2: expected arc number 0, or "closed", found "site"', REQUEST + "site A\n"),
 )
 
 HEAD = "site LONDON\nsite PARIS\nrisk TUNNEL\n"  # so that what follows stands on line 4
@@ -414,7 +415,7 @@ SITE = 'expected a site that a line "site .." above declares, found'
 RISK = 'expected a risk that a line "risk .." above declares, found'
 TRENCH = 'expected a trench that a line "trench .." above declares, found'
 RISKS = 'expected risks, as CHT,PRING, or "-" for none, found'
-NAMED_KINDS = 'expected "site", "risk", "trench", "span", "arc" or "request"'
+NAMED_KINDS = 'expected "site", "risk", "trench", "span", "arc", "closed" or "request"'
 ARCS = "expected at most 128 arcs (a span is two), found arc 129"
 NOT_CLOSED = "expected a quote at the end of the title, found the end of the line"
 LATITUDE = "expected a latitude from -90 to 90, found"
@@ -574,6 +575,8 @@ PIECES = (
     "site ",
     "risk ",
     "trench ",
+    "closed ",
+    "no. ",
     "in ",
     "span ",
     "arc ",
@@ -592,13 +595,23 @@ def spoilt(rng, written):
     return written[:at] + rng.choice(("", rng.choice(PIECES))) + written[at + rng.choice((0, 1, 2, 20)) :]
 
 
+def closing_some(rng, written):
+    """A mesh with some arcs closed, here and there; by number now and then one that the table does not have."""
+    mesh = text.read(written, "mesh")
+    if mesh.arcs and rng.random() < 0.5:
+        mesh = partly_closed(rng, mesh)
+    if not mesh.named and rng.random() < 0.2:
+        mesh = mesh.with_closed([rng.randrange(len(mesh.arcs), 128)])
+    return text.write(mesh)
+
+
 class SpoiltMeshes(unittest.TestCase):
     def test_3000_spoilt_meshes_are_told_in_one_line_or_read_as_what_is_written_of_them(self):
         rng = random.Random(20)
         told = 0
         for number in range(3000):
             written = random_named(rng, False)[0] if number % 2 else random_numbered(rng, rng.randrange(6))[0]
-            faulty = spoilt(rng, written)
+            faulty = spoilt(rng, closing_some(rng, written))
             with self.subTest(faulty):
                 try:
                     mesh = text.read(faulty, "mesh")

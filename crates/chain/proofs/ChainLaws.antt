@@ -1,20 +1,16 @@
 -- The chain is invisible to what is found: arcs of another tail do not open, so passing over them leaves `sprout` the same. Assumes nothing.
 use Prim.Native.Nat.{ℕ, zero, suc, _+_, _-_, _≤_, _<_}
-use mathlib.Core.List.{List, [], _∷_}
+use mathlib.Core.List.{List, []}
 use mathlib.Core.Path.{_≡_, ap, _∙_}
 use native.Mathlib.Omega.{arith}
 use lib.ListN.{length, drop}
 use lib.Seq.{drop-cons}
-use borrow.Author.Tests.{ne-eqb}
 use Rattle.problem.specs.declared.Arc.{Arc}
-use Rattle.problem.specs.Routes.{arcAt, opens, sprout}
+use Rattle.problem.specs.Routes.{arcAt, sprout}
+use Rattle.problem.proofs.RouteLaws.{sprout-other}
 use Rattle.chain.specs.Chain.{Next}
 
 module _ (rest : ℕ → ℕ → List (List ℕ)) (met at : ℕ) where
-  sprout-other : (k : ℕ) (a : Arc) (arcs : List Arc) → (a .tail ≡ at → ⊥) → sprout rest met at k (a ∷ arcs) ≡ sprout rest met at (suc k) arcs
-  unfolding sprout opens
-  sprout-other k a arcs other = rw (ne-eqb (a .tail) at other, sprout)
-
   module _ (arcs : List Arc) where
     -- the d arcs from k on have another tail
     past : (d k : ℕ) → k + d ≤ length arcs → ((i : ℕ) → k ≤ i → i < k + d → arcAt arcs i .tail ≡ at → ⊥)
@@ -23,7 +19,7 @@ module _ (rest : ℕ → ℕ → List (List ℕ)) (met at : ℕ) where
     past (suc d) k h other =
         let e : suc k + d ≡ k + suc d = omega arith in
         rw (drop-cons arcs k (arcAt [] 0) (omega arith))
-        (sprout-other k (arcAt arcs k) (drop (suc k) arcs) (other k (omega arith) (omega arith))
+        (sprout-other rest met at k (arcAt arcs k) (drop (suc k) arcs) (other k (omega arith) (omega arith))
         ∙ past d (suc k) (omega arith) (λ i x y. other i (omega arith) (omega arith))
         ∙ ap (λ (j : ℕ). sprout rest met at j (drop j arcs)) e)
 

@@ -1,12 +1,13 @@
-// The checks of a call before anything is planned: numbers 2 to 8 and those of a faulty arc, in their order (the lists of checks of the problem's specs/Reply.antt).
+// The checks of a call before anything is planned: numbers 2 to 8, those of a faulty arc, and 16, in their order (the lists of checks of the problem's specs/Reply.antt).
 use problem::ARC_BYTES;
+use problem::CLOSED_SIZE;
 use problem::MOST_ALLOWANCE;
 use problem::MOST_REACH;
 use problem::MOST_TABLE_BYTES;
 use problem::REPLY_SIZE;
 use problem::Request;
 ghost use mathlib.Core.Path.{_≡_};
-ghost use Rattle.problem.specs.Reply.{firstNumber, requestChecks, refusal};
+ghost use Rattle.problem.specs.Reply.{firstNumber, requestChecks, plainChecks, refusal};
 
 const LAST_NODE: u32 = problem::LAST_NODE as u32;
 
@@ -35,9 +36,9 @@ fn request_refusal(q: Request) -> u32
     0
 }
 
-// The first of the checks that applies, or 0 for none; `size` is the reply buffer's.
+// The first of the checks of a call that brings no closed set that applies, or 0 for none; `size` is the reply buffer's.
 pub fn refusal(table: &[u8], size: usize, q: Request) -> u32
-    ensures { λ r. ⌜ r ≡ refusal (now (table .entry)) q size ⌝ }
+    ensures { λ r. ⌜ r ≡ firstNumber (plainChecks (now (table .entry)) q size) ⌝ }
 {
     if MOST_TABLE_BYTES < table.len() {
         return 2;
@@ -53,4 +54,23 @@ pub fn refusal(table: &[u8], size: usize, q: Request) -> u32
         return of_request;
     }
     arcs::refusal(table)
+}
+
+// The same of a call that brings a closed set: that is looked at where none of the others applies.
+pub fn refusal_around(table: &[u8], closed: &[u8], size: usize, q: Request) -> u32
+    ensures { λ r. ⌜ r ≡ refusal (now (table .entry)) (now (closed .entry)) q size ⌝ }
+{
+    let n = refusal(table, size, q);
+    if n != 0 {
+        return n;
+    }
+    if closed.len() != CLOSED_SIZE {
+        return 16;
+    }
+    let set = closed::read(closed);
+    let arcs = table.len() / ARC_BYTES;
+    if !closed::inside(set, arcs as u8) {
+        return 16;
+    }
+    0
 }

@@ -1,9 +1,30 @@
-// The planning entry, exported for C: it checks everything itself, plans, and writes the reply.
+// The planning entries, exported for C: each checks everything itself, plans, and writes the reply.
+use planner::Made;
 use problem::Request;
+ghost use mathlib.Core.Path.{_≡_};
+ghost use mathlib.Core.Bool.{true};
+ghost use Prim.Native.Nat.{_≤_};
+ghost use lib.ListN.{length};
+ghost use Rattle.problem.specs.Table.{replySize};
 ghost use Rattle.problem.specs.Reply.{request};
-ghost use Rattle.problem.specs.Calls.{Called};
+ghost use Rattle.problem.specs.Calls.{CalledAround, Called};
+ghost use Rattle.track.specs.Track.{Fit};
+ghost use Rattle.entry.specs.Given.{Given};
 
 const NO_ROUTE: u32 = 10;
+
+// Gives what planning has made: the number, and the reply where there is a pair.
+fn give(reply: &mut [u8], made: Made) -> u32
+    requires { ⌜ (replySize ≤ length (now reply)) × (made .found ≡ true → Fit (made .choice .main) × Fit (made .choice .standby)) ⌝ }
+    ensures { λ r. ⌜ Given made (now (reply .entry)) r (now (reply .exit)) ⌝ }
+{
+    if !made.found {
+        return NO_ROUTE;
+    }
+    let c = made.choice;
+    reply::write(reply, c.verdict, made.floor, c.ranked, c.main, c.standby);
+    c.verdict as u32
+}
 
 // Plans, for any table, request and buffer: the number is 0 or 1 and the reply is written, or it is a refusal's and nothing is.
 #[no_mangle]
@@ -28,10 +49,33 @@ pub extern "C" fn feshangul_plan(
         return n;
     }
     let made = planner::plan_checked(table, q);
-    if !made.found {
-        return NO_ROUTE;
+    give(reply, made)
+}
+
+// Plans around closed arcs (T-06), for any table, closed set, request and buffer.
+#[no_mangle]
+pub extern "C" fn feshangul_plan_around(
+    table: &[u8],
+    closed: &[u8],
+    reply: &mut [u8],
+    source: u32,
+    terminal: u32,
+    reach: u32,
+    allowance: u32,
+) -> u32
+    ensures { λ r. ⌜ CalledAround (now (table .entry)) (now (closed .entry)) (request source terminal reach allowance) (now (reply .entry)) r (now (reply .exit)) ⌝ }
+{
+    let q = Request {
+        source: source,
+        terminal: terminal,
+        reach: reach,
+        allowance: allowance,
+    };
+    let n = checks::refusal_around(table, closed, reply.len(), q);
+    if n != 0 {
+        return n;
     }
-    let c = made.choice;
-    reply::write(reply, c.verdict, made.floor, c.ranked, c.main, c.standby);
-    c.verdict as u32
+    let set = closed::read(closed);
+    let made = planner::plan_around(table, set, q);
+    give(reply, made)
 }

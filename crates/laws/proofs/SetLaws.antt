@@ -1,8 +1,8 @@
 -- Sets of nodes or of risks as numbers, at any width: bits of unions, intersections and one more element; how many elements. Assumes nothing.
 use mathlib.Core.Path.{_≡_, refl, sym, ap, _∙_}
 use mathlib.Core.Bool.{Bool, true, false}
-use Prim.Native.Nat.{ℕ, zero, suc, _+_, _-_, _/_, _%_, _^_, _≤_, _<_, min, max}
-use native.Mathlib.Nat.{le-refl, lt-of-lt-of-le, pow-suc, pow-succ', div-one, div-div-eq-div-mul, div-lt-iff-lt-mul, not-suc-le-zero}
+use Prim.Native.Nat.{ℕ, zero, suc, _+_, _*_, _-_, _/_, _%_, _^_, _≤_, _<_, min, max}
+use native.Mathlib.Nat.{le-refl, lt-of-lt-of-le, mul-assoc, pow-suc, pow-succ', div-one, div-div-eq-div-mul, div-lt-iff-lt-mul, not-suc-le-zero}
 use native.Mathlib.Omega.{arith}
 use lib.Arith.{lt-one}
 use lib.Bits.{bitAnd, bitOr, and-step, or-step, and-shr, or-shr, and-le-l, and-le-r, and-self, or-add-and}
@@ -87,6 +87,50 @@ bits-same (suc d) x y h b f =
 pub bits-ext : (x y : ℕ) → ((r : ℕ) → bit x r ≡ bit y r) → x ≡ y
 bits-ext x y f =
     bits-same (x + y) x y (lt-of-lt-of-le (below-pow x) (pow-mono (omega arith))) (lt-of-lt-of-le (below-pow y) (pow-mono (omega arith))) f
+
+-- a set below a power of two has no element from there on, and any other has one
+pub bit-past : (d x r : ℕ) → x < 2 ^ d → d ≤ r → bit x r ≡ 0
+bit-past zero x r h l = rw (lt-one h) (bit-empty r)
+bit-past (suc d) x zero h l = absurd (omega arith)
+bit-past (suc d) x (suc r) h l = bit-suc x r ∙ bit-past d (x / 2) r (div-lt-iff-lt-mul (lit< tt) .1 (rw pow-suc at h)) (omega arith)
+
+pub record Element (d x : ℕ) : Type 0 where
+  pub place : ℕ
+  pub from : d ≤ place
+  pub is-in : bit x place ≡ 1
+
+element-half : {d x : ℕ} → Element d (x / 2) → Element (suc d) x
+element-half {d} {x} e = record { place = suc (e .place); from = omega (arith, e .from); is-in = bit-suc x (e .place) ∙ e .is-in }
+
+element-lowest : (d x : ℕ) → x < 2 ^ d → 0 < x → Element 0 x
+element-lowest zero x h some = absurd (omega (arith, lt-one h))
+element-lowest (suc d) x h some = go (eqb (x % 2) 1) refl (λ more. element-half (element-lowest d (x / 2) (div-lt-iff-lt-mul (lit< tt) .1 (rw pow-suc at h)) more))
+  where
+    go : (b : Bool) → eqb (x % 2) 1 ≡ b → (0 < x / 2 → Element 1 x) → Element 0 x
+    go true e higher = record { place = 0; from = omega arith; is-in = bit-zero x ∙ eqb-true (x % 2) 1 e }
+    go false e higher = let found = higher (omega (arith, eqb-false (x % 2) 1 e)) in record { place = found .place; from = omega arith; is-in = found .is-in }
+
+pub element-past : (d x : ℕ) → 2 ^ d ≤ x → Element d x
+element-past zero x h = element-lowest x x (below-pow x) (omega arith)
+element-past (suc d) x h = element-half (element-past d (x / 2) (let twice : 2 ^ suc d ≡ 2 * 2 ^ d = pow-succ' 2 d in omega arith))
+
+-- a set below a power of two, and another from there on
+twice-power : (d y : ℕ) → 2 ^ suc d * y ≡ 2 * (2 ^ d * y)
+twice-power d y = rw (pow-succ', mul-assoc)
+
+pub bit-low : (d x y r : ℕ) → r < d → bit (x + 2 ^ d * y) r ≡ bit x r
+bit-low zero x y r h = absurd (omega arith)
+bit-low (suc d) x y zero h = simp bit-zero (omega (arith, twice-power d y))
+bit-low (suc d) x y (suc r) h =
+    let half : (x + 2 ^ suc d * y) / 2 ≡ x / 2 + 2 ^ d * y = omega (arith, twice-power d y) in
+    bit-suc _ r ∙ ap (λ (s : ℕ). bit s r) half ∙ bit-low d (x / 2) y r (omega arith) ∙ sym (bit-suc x r)
+
+pub bit-high : (d x y r : ℕ) → x < 2 ^ d → bit (x + 2 ^ d * y) (d + r) ≡ bit y r
+bit-high zero x y r h = let other : x + 2 ^ 0 * y ≡ y = omega (arith, lt-one h) in let same : 0 + r ≡ r = omega arith in rw (other, same)
+bit-high (suc d) x y r h =
+    let half : (x + 2 ^ suc d * y) / 2 ≡ x / 2 + 2 ^ d * y = omega (arith, twice-power d y) in
+    let next : suc d + r ≡ suc (d + r) = omega arith in
+    ap (bit (x + 2 ^ suc d * y)) next ∙ bit-suc _ (d + r) ∙ ap (λ (s : ℕ). bit s (d + r)) half ∙ bit-high d (x / 2) y r (div-lt-iff-lt-mul (lit< tt) .1 (rw pow-suc at h))
 
 -- all of the lowest d bits
 pub bit-full : (d r : ℕ) → r < d → bit (2 ^ d - 1) r ≡ 1

@@ -1,5 +1,5 @@
 -- A list put in order: it has the same members, each stands before all later ones, and its places are its ranks. Assumes nothing.
-use mathlib.Core.Path.{_≡_, refl, sym, ap, _∙_}
+use mathlib.Core.Path.{_≡_, refl, sym, ap, ap₂, _∙_}
 use mathlib.Core.Logic.{_⊎_, inl, inr, _↔_}
 use mathlib.Core.Bool.{Bool, true, false, true≢false}
 use mathlib.Core.List.{List, [], _∷_, List·Memᴰ, List·Memᴰ·head, List·Memᴰ·tail, List·Memᴰ·not-nil, List·Memᴰ·cases-cons}
@@ -95,6 +95,34 @@ module _ {A : Type 0} (before : A → A → Bool) where
         go true f q g = absurd (never i k (ltb-true i k f) b e)
         go false f true g = absurd (never k i (ltb-true k i g) h (sym e))
         go false f false g = omega (arith, ltb-false i k f, ltb-false k i g)
+
+    -- what stands strictly in order is settled by who is in it
+    pub strict-unique : (l r : List A) → Strict l → Strict r → ((x : A) → List·Memᴰ x l ↔ List·Memᴰ x r) → l ≡ r
+    strict-unique [] [] s t f = refl
+    strict-unique [] (b ∷ r) s t f = absurd (List·Memᴰ·not-nil (f b .1 (List·Memᴰ·head refl)))
+    strict-unique (a ∷ l) [] s t f = absurd (List·Memᴰ·not-nil (f a .0 (List·Memᴰ·head refl)))
+    strict-unique (a ∷ l) (b ∷ r) s t f =
+        ap₂ (λ (x : A) (m : List A). x ∷ m) same
+        (strict-unique l r (pairwise-tail s) (pairwise-tail t) (λ x. (
+          λ m. behind s same x m (List·Memᴰ·cases-cons (f x .0 (List·Memᴰ·tail m))),
+          λ m. behind t (sym same) x m (List·Memᴰ·cases-cons (f x .1 (List·Memᴰ·tail m))),
+        )))
+      where
+        never : (x : A) → before x x ≡ true → ⊥
+        never x e = true≢false (sym e ∙ w .irrefl x)
+
+        heads : (a ≡ b) ⊎ List·Memᴰ a r → (b ≡ a) ⊎ List·Memᴰ b l → a ≡ b
+        heads (inl e) q = e
+        heads (inr m) (inl e) = sym e
+        heads (inr m) (inr n) = absurd (never a (w .trans a b a (pairwise-head s b n) (pairwise-head t a m)))
+
+        same : a ≡ b
+        same = heads (List·Memᴰ·cases-cons (f a .0 (List·Memᴰ·head refl))) (List·Memᴰ·cases-cons (f b .1 (List·Memᴰ·head refl)))
+
+        -- who stands behind the first of one list is not the first of the other
+        behind : {c d : A} {k m : List A} → Strict (c ∷ k) → c ≡ d → (x : A) → List·Memᴰ x k → (x ≡ d) ⊎ List·Memᴰ x m → List·Memᴰ x m
+        behind u e x i (inl p) = absurd (never x (ap (λ (y : A). before y x) (p ∙ sym e) ∙ pairwise-head u x i))
+        behind u e x i (inr j) = j
 
   -- what passes a test that holds of everything before what passes it is a beginning of the list
   pub keep-beginning : (test : A → Bool) {l : List A} → Strict l → ((a b : A) → before a b ≡ true → test b ≡ true → test a ≡ true) → keep test l ≡ take (length (keep test l)) l

@@ -3,22 +3,31 @@ use mathlib.Core.Path.{_≡_, refl, sym, ap, _∙_, subst}
 use mathlib.Core.Logic.{_⊎_, inl, inr}
 use mathlib.Core.Bool.{true, false, true≢false, false≢true}
 use mathlib.Core.List.{List, [], _∷_, List·Memᴰ, List·Memᴰ·head, List·Memᴰ·tail}
-use Prim.Native.Nat.{ℕ, _-_, _≤_, _<_}
+use Prim.Native.Nat.{ℕ, _-_, _%_, _≤_, _<_}
+use native.Mathlib.Nat.{zero-add}
 use native.Mathlib.Omega.{arith}
 use lib.ListN.{length, take, drop}
 use lib.Seq.{take-at}
 use Rattle.problem.specs.declared.Arc.{Arc}
 use Rattle.problem.specs.declared.Exposure.{Exposure}
 use Rattle.problem.specs.declared.Request.{Request}
-use Rattle.problem.specs.Table.{arcsOf, over, allSound}
+use Rattle.problem.specs.Table.{mostTableBytes, arcsOf, over, allSound}
 use Rattle.problem.specs.Exposures.{toNothing, size}
-use Rattle.problem.specs.Routes.{IsWay, Route, ranking}
+use Rattle.problem.specs.Routes.{arcAt, IsWay, Route, ranking}
 use Rattle.problem.specs.Pairs.{onEvery, floor}
-use Rattle.problem.specs.Reply.{meshOver, meshOf, Checked}
+use Rattle.problem.specs.Spans.{mark, markedArcs}
+use Rattle.problem.specs.Closed.{shut, shutIn}
+use Rattle.problem.specs.Reply.{meshOver, Checked}
 use Rattle.problem.proofs.RankingLaws.{Listed, ranking-out}
 use Rattle.problem.proofs.WayLaws.{way-route}
 use Rattle.problem.proofs.PathLaws.{sound-heads}
-use Rattle.problem.proofs.SpanLaws.{unspanned-same, marked-sound}
+use Rattle.problem.proofs.TableLaws.{arcs-length}
+use Rattle.problem.proofs.SpanLaws.{marked-at, mark-unknown, unspanned-same, marked-sound}
+use Rattle.problem.proofs.ClosedLaws.{closed-none}
+use Rattle.octets.specs.Puts.{Puts}
+use Rattle.octets.proofs.PutLaws.{puts-taken}
+use Rattle.closed.specs.Turned.{turnedIn}
+use Rattle.closed.proofs.TurnedLaws.{turned-sound, turned-span, ranking-turned}
 use Rattle.side.specs.declared.Side.{Side}
 use Rattle.side.specs.Side.{SideTable, reachedAt, metresAt}
 use Rattle.floor.proofs.ClearLaws.{way-free}
@@ -90,29 +99,76 @@ planned-over : (q : Request) {arcs more : List Arc} {m : Made} → arcs ≡ more
 planned-over q {m = m} e p = subst (λ (l : List Arc). Planned (ranking (meshOver l q)) (q .allowance) m) e p
 
 -- where no arc has a span, they are those of the table
-pub planned-unspanned : (table : List ℕ) (q : Request) {m : Made} → NoSpan (arcsOf table) → Planned (ranking (meshOver (arcsOf table) q)) (q .allowance) m → Planned (ranking (meshOf table q)) (q .allowance) m
+pub planned-unspanned : (table : List ℕ) (q : Request) {m : Made} → NoSpan (arcsOf table) → Planned (ranking (meshOver (arcsOf table) q)) (q .allowance) m → Planned (ranking (meshOver (markedArcs table) q)) (q .allowance) m
 planned-unspanned table q none p = planned-over q (sym (unspanned-same (arcsOf table) none)) p
 
 -- else those of the table written anew, which passes the checks as well
 module _ {table : List ℕ} {q : Request} (checked : Checked table q) where
-  pub checked-marked : Checked (markedTable table) q
-  checked-marked = record {
-    few-bytes = omega (arith, table-length table, checked .few-bytes);
-    whole-arcs = omega (arith, table-length table);
+  -- as does each table that is as long and sound
+  checked-as : {other : List ℕ} → length other ≡ length table → allSound (arcsOf other) ≡ true → Checked other q
+  checked-as size sound = record {
+    few-bytes = omega (arith, size, checked .few-bytes);
+    whole-arcs = ap (λ (n : ℕ). n % 16) size ∙ checked .whole-arcs;
     source-node = checked .source-node;
     terminal-node = checked .terminal-node;
     ends-differ = checked .ends-differ;
     reach-range = checked .reach-range;
     some-allowance = checked .some-allowance;
     allowance-range = checked .allowance-range;
-    sound = ap allSound (marked-arcs table (checked .few-bytes)) ∙ marked-sound (arcsOf table) (checked .sound);
+    sound = sound;
   }
 
-  pub planned-marked : {m : Made} → Planned (ranking (meshOver (arcsOf (markedTable table)) q)) (q .allowance) m → Planned (ranking (meshOf table q)) (q .allowance) m
+  marked-size : length (markedTable table) ≡ length table
+  marked-size = omega (arith, table-length table, checked .whole-arcs)
+
+  pub checked-marked : Checked (markedTable table) q
+  checked-marked = checked-as marked-size (ap allSound (marked-arcs table (checked .few-bytes)) ∙ marked-sound (arcsOf table) (checked .sound))
+
+  pub planned-marked : {m : Made} → Planned (ranking (meshOver (arcsOf (markedTable table)) q)) (q .allowance) m → Planned (ranking (meshOver (markedArcs table) q)) (q .allowance) m
   planned-marked p = planned-over q (marked-arcs table (checked .few-bytes)) p
 
   -- its bytes, as the part of the buffer that was written
   pub part-marked : (buffer : List ℕ) → take (length table - 0) (drop 0 (over (markedTable table) buffer)) ≡ markedTable table
   part-marked buffer =
-      let size : length table - 0 ≡ length (markedTable table) = omega (arith, table-length table, checked .whole-arcs) in
+      let size : length table - 0 ≡ length (markedTable table) = omega (arith, marked-size) in
       take-at (markedTable table) (drop (length (markedTable table)) buffer) (length table - 0) (sym size)
+
+-- ---- the table written into a buffer, spans known by their first arcs
+
+-- with marks in the place of the numbers
+pub arcs-marked : (table buffer : List ℕ) → length table ≤ mostTableBytes → length table % 16 ≡ 0 → arcsOf (take (length table) (over (markedTable table) buffer)) ≡ markedArcs table
+arcs-marked table buffer few whole =
+    let size : length (markedTable table) ≡ length table = omega (arith, table-length table) in
+    ap arcsOf (take-at (markedTable table) (drop (length (markedTable table)) buffer) (length table) size) ∙ marked-arcs table few
+
+-- as it is, where no arc has a span
+pub arcs-copied : (table buffer : List ℕ) {after : List ℕ} {n : ℕ} → Puts table buffer 0 after n → NoSpan (arcsOf table) → arcsOf (take (length table) after) ≡ markedArcs table
+arcs-copied table buffer {after} p none =
+    let size = p .place ∙ zero-add (length table) in
+    ap arcsOf (ap (λ (k : ℕ). take k after) (sym size) ∙ puts-taken p) ∙ sym (unspanned-same (arcsOf table) none)
+
+-- ---- and its closed arcs turned round
+
+module _ {table : List ℕ} {q : Request} (checked : Checked table q) (closed : ℕ) (part : List ℕ) (size : length part ≡ length table)
+    (says : arcsOf part ≡ turnedIn closed (q .terminal) (q .source) (markedArcs table)) where
+  marked-is-sound : allSound (markedArcs table) ≡ true
+  marked-is-sound = marked-sound (arcsOf table) (checked .sound)
+
+  pub checked-turned : Checked part q
+  checked-turned =
+      checked-as checked size (ap allSound says ∙ turned-sound closed (q .terminal) (q .source) (markedArcs table) (checked .terminal-node) (checked .source-node) (λ e. checked .ends-differ (sym e)) marked-is-sound)
+
+  pub unspanned-turned : NoSpan (arcsOf table) → NoSpan (arcsOf part)
+  unspanned-turned none k h =
+      ap (λ (arcs : List Arc). arcAt arcs k .span) says ∙ turned-span closed (q .terminal) (q .source) (markedArcs table) k ∙ ap (λ (a : Arc). a .span) (marked-at (arcsOf table) k)
+      ∙ ap (mark (arcsOf table)) (none k (omega (arith, h, arcs-length part, arcs-length table, size))) ∙ mark-unknown (arcsOf table)
+
+  pub planned-turned : {m : Made} → Planned (ranking (meshOver (arcsOf part) q)) (q .allowance) m → Planned (ranking (meshOver (shutIn closed (markedArcs table)) q)) (q .allowance) m
+  planned-turned {m} p =
+      subst (λ (routes : List Route). Planned routes (q .allowance) m)
+      (ap (λ (arcs : List Arc). ranking (meshOver arcs q)) says ∙ ranking-turned closed (q .source) (markedArcs table) q (sound-heads (markedArcs table) marked-is-sound) (checked .source-node)) p
+
+-- where nothing is closed they stay as they are
+pub planned-open : (table : List ℕ) (q : Request) {closed : ℕ} {m : Made} → closed ≡ 0 → Planned (ranking (meshOver (markedArcs table) q)) (q .allowance) m
+    → Planned (ranking (meshOver (shutIn closed (markedArcs table)) q)) (q .allowance) m
+planned-open table q none p = planned-over q (sym (ap (λ (set : ℕ). shutIn set (markedArcs table)) none ∙ closed-none shut 0 (markedArcs table))) p

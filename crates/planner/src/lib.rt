@@ -1,16 +1,20 @@
 // What plans a call whose checks have passed: from the table and the request to the floor and the pair, or to no route at all.
 use choose::Choice;
+use closed::Closed;
 use problem::Request;
 use side::Side;
 ghost use mathlib.Core.Path.{_≡_};
 ghost use mathlib.Core.Bool.{false};
-ghost use Prim.Native.Nat.{_<_};
-ghost use lib.ListN.{length};
-ghost use Rattle.problem.specs.Table.{arcsOf};
+ghost use Prim.Native.Nat.{_%_, _≤_, _<_};
+ghost use lib.ListN.{length, take};
+ghost use Rattle.problem.specs.Table.{mostTableBytes, arcsOf};
+ghost use Rattle.problem.specs.Spans.{markedArcs};
+ghost use Rattle.problem.specs.Closed.{shutIn};
 ghost use Rattle.problem.specs.Exposures.{toNothing};
 ghost use Rattle.problem.specs.Routes.{ranking};
-ghost use Rattle.problem.specs.Reply.{meshOver, meshOf, Checked};
+ghost use Rattle.problem.specs.Reply.{meshOver, Checked};
 ghost use Rattle.side.specs.Side.{SideTable};
+ghost use Rattle.closed.specs.Turned.{setOf};
 ghost use Rattle.spans.specs.Marks.{NoSpan};
 ghost use Rattle.planner.specs.Planner.{Planned};
 
@@ -78,7 +82,7 @@ fn plan_read(table: &[u8], q: Request, spanned: u64) -> Made
 // Plans a call whose checks have passed. A table without spans is planned over as it is, any other with its spans known by their first arcs.
 pub fn plan_checked(table: &[u8], q: Request) -> Made
     requires { ⌜ Checked (now table) q ⌝ }
-    ensures { λ r. ⌜ Planned (ranking (meshOf (now (table .entry)) q)) (q .allowance) r ⌝ }
+    ensures { λ r. ⌜ Planned (ranking (meshOver (markedArcs (now (table .entry))) q)) (q .allowance) r ⌝ }
 {
     if !spans::any(table) {
         return plan_read(table, q, 0);
@@ -86,4 +90,32 @@ pub fn plan_checked(table: &[u8], q: Request) -> Made
     let mut marked = [0; problem::MOST_TABLE_BYTES];
     spans::put_all(&mut marked, table);
     plan_read(&marked[0..table.len()], q, 1)
+}
+
+// Writes the table so, into a longer buffer, and says whether any arc has a span: 0 only where none has.
+fn write_marked(out: &mut [u8], table: &[u8]) -> u64
+    requires { ⌜ (length (now table) ≤ length (now out)) × (length (now table) ≤ mostTableBytes) × (length (now table) % 16 ≡ 0) ⌝ }
+    ensures arcs { λ _. ⌜ arcsOf (take (length (now (table .entry))) (now (out .exit))) ≡ markedArcs (now (table .entry)) ⌝ }
+    ensures spanned { λ r. ⌜ (r ≡ 0 → NoSpan (arcsOf (now (table .entry)))) ⌝ }
+{
+    if spans::any(table) {
+        spans::put_all(out, table);
+        return 1;
+    }
+    octets::copy(out, 0, table);
+    0
+}
+
+// Plans around the arcs that are closed. A set that closes none leaves the table as it is; else it is written anew, with the closed arcs turned round, where no route goes over them.
+pub fn plan_around(table: &[u8], set: Closed, q: Request) -> Made
+    requires { ⌜ Checked (now table) q ⌝ }
+    ensures { λ r. ⌜ Planned (ranking (meshOver (shutIn (setOf set) (markedArcs (now (table .entry)))) q)) (q .allowance) r ⌝ }
+{
+    if !closed::any(set) {
+        return plan_checked(table, q);
+    }
+    let mut around = [0; problem::MOST_TABLE_BYTES];
+    let spanned = write_marked(&mut around, table);
+    closed::turn_all(&mut around[0..table.len()], set, q);
+    plan_read(&around[0..table.len()], q, spanned)
 }

@@ -2,13 +2,15 @@
 use mathlib.Core.Path.{_≡_, refl, sym, ap, ap₂, _∙_}
 use mathlib.Core.Bool.{Bool, true, false}
 use mathlib.Core.List.{List, _∷_, _++_}
-use Prim.Native.Nat.{ℕ, zero, suc, _+_, _*_, _/_, _%_, _^_, _<_}
+use Prim.Native.Nat.{ℕ, zero, suc, _+_, _*_, _-_, _/_, _%_, _^_, _<_}
 use native.Mathlib.Nat.{add-zero, pow-suc, div-lt-iff-lt-mul}
 use native.Mathlib.Omega.{arith}
 use lib.Dec.{ltb, lit<}
 use lib.ListN.{getD, take, drop, length-take, List·getD-eq-default}
 use lib.Seq.{getD-take, getD-drop}
 use borrow.Author.Tests.{ltb-true, ltb-false}
+use Rattle.laws.specs.Sets.{bit}
+use Rattle.laws.proofs.SetLaws.{bit-low, bit-high}
 use Rattle.problem.specs.Table.{Bytes, numberAt, bytesOf}
 
 -- one byte more in front, one place further on
@@ -41,6 +43,27 @@ pub number-below : (bytes : List ℕ) → Bytes bytes → (at n : ℕ) → numbe
 unfolding numberAt
 number-below bytes f at zero = omega arith
 number-below bytes f at (suc n) = rw pow-suc (omega (arith, f at, number-below bytes f (suc at) n))
+
+-- bit k of the number that bytes say is bit k % 8 of byte k / 8
+pub number-bit : (bytes : List ℕ) → Bytes bytes → (at n k : ℕ) → k < 8 * n → bit (numberAt bytes at n) k ≡ bit (getD bytes (at + k / 8) 0) (k % 8)
+unfolding numberAt
+number-bit bytes f at zero k h = absurd (omega arith)
+number-bit bytes f at (suc n) k h = go (ltb k 8) refl (λ r l. number-bit bytes f (suc at) n r l)
+  where
+    go : (b : Bool) → ltb k 8 ≡ b → ((r : ℕ) → r < 8 * n → bit (numberAt bytes (suc at) n) r ≡ bit (getD bytes (suc at + r / 8) 0) (r % 8))
+        → bit (getD bytes at 0 + 256 * numberAt bytes (suc at) n) k ≡ bit (getD bytes (at + k / 8) 0) (k % 8)
+    go true e higher =
+        let l = ltb-true k 8 e in
+        let here : at + k / 8 ≡ at = omega arith in
+        let own : k % 8 ≡ k = omega arith in
+        bit-low 8 (getD bytes at 0) (numberAt bytes (suc at) n) k l ∙ rw (here, own)
+    go false e higher =
+        let l = ltb-false k 8 e in
+        let from : k ≡ 8 + (k - 8) = omega arith in
+        let next : suc at + (k - 8) / 8 ≡ at + k / 8 = omega arith in
+        let rest : (k - 8) % 8 ≡ k % 8 = omega arith in
+        ap (bit (getD bytes at 0 + 256 * numberAt bytes (suc at) n)) from ∙ bit-high 8 (getD bytes at 0) (numberAt bytes (suc at) n) (k - 8) (f at)
+        ∙ higher (k - 8) (omega arith) ∙ rw (next, rest)
 
 -- a part of bytes is bytes
 pub bytes-part : (from n : ℕ) (l : List ℕ) → Bytes l → Bytes (take n (drop from l))

@@ -1,7 +1,7 @@
 -- How calls end: the verdict, which number goes with which end, the order of the checks, and the arc that a number names. Assumes nothing.
 use mathlib.Core.Path.{_≡_, refl, sym, ap, subst}
 use mathlib.Core.Bool.{Bool, true, false}
-use mathlib.Core.Logic.{inl, _↔_}
+use mathlib.Core.Logic.{_⊎_, inl, inr, _↔_}
 use mathlib.Core.List.{List, [], List·Memᴰ, List·Memᴰ·not-nil}
 use Prim.Native.Nat.{ℕ, _+_, _*_, _/_, _%_, _≤_, _<_}
 use native.Mathlib.Omega.{arith}
@@ -11,18 +11,17 @@ use borrow.Author.Tests.{leb-true, leb-false, le-leb, lt-leb, ltb-true, ltb-fals
 use Rattle.laws.proofs.ListLaws.{getD-mem}
 use Rattle.problem.specs.declared.Request.{Request}
 use Rattle.problem.specs.Table.{arcsOf, faultOf}
-use Rattle.problem.specs.Spans.{plannedArcs}
+use Rattle.problem.specs.Closed.{closedSize, closedIn, isOpen, plannedArcs}
 use Rattle.problem.specs.Routes.{Route, arcAt, routeOf}
 use Rattle.problem.specs.Pairs.{noRoute, Step, every, someAt, leastSettled, ranked, verdict}
-use Rattle.problem.specs.Reply.{meshOf, Answer, Passed, answer}
+use Rattle.problem.specs.Reply.{meshOf, Answer, Passed, answerAround}
 use Rattle.problem.specs.Calls.{routesOf, RouteOf, Applies, Told, LowestFault}
 use Rattle.problem.proofs.FaultLaws.{fault-range, lowest-first}
-use Rattle.problem.proofs.SpanLaws.{planned-sound}
-use Rattle.problem.proofs.PathLaws.{sound-heads}
+use Rattle.problem.proofs.ClosedLaws.{planned-heads}
 use Rattle.problem.proofs.RankingLaws.{ranking-in, ranking-out}
 use Rattle.problem.proofs.CandidateLaws.{every-some}
 use Rattle.problem.proofs.ReplyLaws.{answered, Outcome, outcome, passed-refusal, ranked-step}
-use Rattle.problem.proofs.RefusalLaws.{NoneBefore, Known, own-turn, told-two, told-own, told-same, told-faulty, told-lowest, told-known, passed-ten, passed-before}
+use Rattle.problem.proofs.RefusalLaws.{NoneBefore, Known, turn-sixteen, turn-ten, told-two, told-own, told-same, told-faulty, told-lowest, told-known, passed-ten, passed-before}
 
 -- ---- the verdict
 
@@ -59,121 +58,140 @@ number-of : {a b : Answer} → a ≡ b → a .number ≡ b .number
 number-of e = ap (λ (a : Answer). a .number) e
 
 -- with number 0 or 1 the call ended with a pair
-pub record WithPair (table : List ℕ) (q : Request) (size : ℕ) : Type 0 where
-  pub passed : Passed table q size
-  pub some : 0 < length (routesOf table q)
-  pub is : answer table q size ≡ answered table q
+pub record WithPair (table closed : List ℕ) (q : Request) (size : ℕ) : Type 0 where
+  pub passed : Passed table closed q size
+  pub some : 0 < length (routesOf table closed q)
+  pub is : answerAround table closed q size ≡ answered table closed q
 
-pub low-number : (table : List ℕ) (q : Request) (size : ℕ) → answer table q size .number < 2 → WithPair table q size
-low-number table q size h = go (outcome table q size)
+pub low-number : (table closed : List ℕ) (q : Request) (size : ℕ) → answerAround table closed q size .number < 2 → WithPair table closed q size
+low-number table closed q size h = go (outcome table closed q size)
   where
-    go : Outcome table q size → WithPair table q size
-    go (Outcome.by-check n r told e) = absurd (omega (arith, number-of e, told-two table q size told))
+    go : Outcome table closed q size → WithPair table closed q size
+    go (Outcome.by-check n r told e) = absurd (omega (arith, number-of e, told-two table closed q size told))
     go (Outcome.no-route p none e) = absurd (omega (arith, number-of e))
     go (Outcome.with-pair p some e) = record { passed = p; some = some; is = e }
 
 -- a call whose checks pass and that has a route ends with a pair
-pub some-route : (table : List ℕ) (q : Request) (size : ℕ) → Passed table q size → 0 < length (routesOf table q) → WithPair table q size
-some-route table q size passed some = go (outcome table q size)
+pub some-route : (table closed : List ℕ) (q : Request) (size : ℕ) → Passed table closed q size → 0 < length (routesOf table closed q) → WithPair table closed q size
+some-route table closed q size passed some = go (outcome table closed q size)
   where
-    go : Outcome table q size → WithPair table q size
-    go (Outcome.by-check n r told e) = absurd (omega (arith, passed-refusal passed, told-two table q size told))
+    go : Outcome table closed q size → WithPair table closed q size
+    go (Outcome.by-check n r told e) = absurd (omega (arith, passed-refusal passed, told-two table closed q size told))
     go (Outcome.no-route p none e) = absurd (omega (arith, ap length none))
     go (Outcome.with-pair p more e) = record { passed = p; some = more; is = e }
 
 -- the step whose best pair is replied
-pub pair-step : {table : List ℕ} {q : Request} {size : ℕ} → WithPair table q size → Step (routesOf table q) (ranked every (routesOf table q) (q .allowance))
-pair-step {table} {q} w = ranked-step (routesOf table q) (q .allowance) (w .some) (w .passed .checked .some-allowance)
+pub pair-step : {table closed : List ℕ} {q : Request} {size : ℕ} → WithPair table closed q size → Step (routesOf table closed q) (ranked every (routesOf table closed q) (q .allowance))
+pair-step {table} {closed} {q} w = ranked-step (routesOf table closed q) (q .allowance) (w .some) (w .passed .checked .some-allowance)
 
 -- that step has a pair
-pub some-pair : {table : List ℕ} {q : Request} {size : ℕ} → WithPair table q size → someAt every (routesOf table q) (ranked every (routesOf table q) (q .allowance)) ≡ true
-some-pair {table} {q} w = every-some (routesOf table q) (pair-step w)
+pub some-pair : {table closed : List ℕ} {q : Request} {size : ℕ} → WithPair table closed q size → someAt every (routesOf table closed q) (ranked every (routesOf table closed q) (q .allowance)) ≡ true
+some-pair {table} {closed} {q} w = every-some (routesOf table closed q) (pair-step w)
 
 -- with a higher number nothing was written
-pub high-number : (table : List ℕ) (q : Request) (size : ℕ) → 2 ≤ answer table q size .number → answer table q size .reply ≡ []
-high-number table q size h = go (outcome table q size)
+pub high-number : (table closed : List ℕ) (q : Request) (size : ℕ) → 2 ≤ answerAround table closed q size .number → answerAround table closed q size .reply ≡ []
+high-number table closed q size h = go (outcome table closed q size)
   where
-    go : Outcome table q size → answer table q size .reply ≡ []
+    go : Outcome table closed q size → answerAround table closed q size .reply ≡ []
     go (Outcome.by-check n r told e) = ap (λ (a : Answer). a .reply) e
     go (Outcome.no-route p none e) = ap (λ (a : Answer). a .reply) e
-    go (Outcome.with-pair p some e) = absurd (omega (arith, number-of e, verdict-small (routesOf table q) (q .allowance)))
+    go (Outcome.with-pair p some e) = absurd (omega (arith, number-of e, verdict-small (routesOf table closed q) (q .allowance)))
 
 -- ---- routes, or none
 
 -- no list of arc numbers is a route of the call
-abbrev NoRoute : List ℕ → Request → Type 0
-NoRoute table q = (ks : List ℕ) → RouteOf table q ks → ⊥
+abbrev NoRoute : (table closed : List ℕ) → Request → Type 0
+NoRoute table closed q = (ks : List ℕ) → RouteOf table closed q ks → ⊥
 
-none-listed : {table : List ℕ} {q : Request} {size : ℕ} → Passed table q size → routesOf table q ≡ [] → NoRoute table q
-none-listed {table} {q} p none ks r =
-    let m = ranking-in (meshOf table q) (sound-heads (plannedArcs table) (planned-sound table (p .checked .sound))) (p .checked .source-node) r in
-    List·Memᴰ·not-nil (subst (λ (l : List Route). List·Memᴰ (routeOf (plannedArcs table) ks) l) none m)
+none-listed : {table closed : List ℕ} {q : Request} {size : ℕ} → Passed table closed q size → routesOf table closed q ≡ [] → NoRoute table closed q
+none-listed {table} {closed} {q} p none ks r =
+    let m = ranking-in (meshOf table closed q) (planned-heads table closed (p .checked .sound)) (p .checked .source-node) r in
+    List·Memᴰ·not-nil (subst (λ (l : List Route). List·Memᴰ (routeOf (plannedArcs table closed) ks) l) none m)
 
-some-listed : (table : List ℕ) (q : Request) → 0 < length (routesOf table q) → NoRoute table q → ⊥
-some-listed table q some f =
-    let o = ranking-out (meshOf table q) (getD-mem noRoute (routesOf table q) 0 some) in
+some-listed : (table closed : List ℕ) (q : Request) → 0 < length (routesOf table closed q) → NoRoute table closed q → ⊥
+some-listed table closed q some f =
+    let o = ranking-out (meshOf table closed q) (getD-mem noRoute (routesOf table closed q) 0 some) in
     f (o .list) (o .route)
 
 -- ---- the order of the checks
 
-module _ (table : List ℕ) (q : Request) (size : ℕ) where
+module _ (table closed : List ℕ) (q : Request) (size : ℕ) where
   -- whatever is refused is told
-  pub refused-told : 2 ≤ answer table q size .number → Told table q size (answer table q size .number)
-  refused-told h = go (outcome table q size)
+  pub refused-told : 2 ≤ answerAround table closed q size .number → Told table closed q size (answerAround table closed q size .number)
+  refused-told h = go (outcome table closed q size)
     where
-      go : Outcome table q size → Told table q size (answer table q size .number)
-      go (Outcome.by-check n r told e) = subst (Told table q size) (sym (number-of e)) told
+      go : Outcome table closed q size → Told table closed q size (answerAround table closed q size .number)
+      go (Outcome.by-check n r told e) = subst (Told table closed q size) (sym (number-of e)) told
       go (Outcome.no-route p none e) =
-          subst (Told table q size) (sym (number-of e)) (told-own table q size 10 (λ e. omega arith) (Applies.no-route (none-listed p none)) (passed-before table q size p))
-      go (Outcome.with-pair p some e) = absurd (omega (arith, number-of e, verdict-small (routesOf table q) (q .allowance)))
+          subst (Told table closed q size) (sym (number-of e)) (told-own table closed q size (λ e. omega arith) (Applies.no-route (none-listed p none)) (passed-before table closed q size p))
+      go (Outcome.with-pair p some e) = absurd (omega (arith, number-of e, verdict-small (routesOf table closed q) (q .allowance)))
 
   -- whatever is answered is refused by none
-  pub answered-none : answer table q size .number < 2 → {t i : ℕ} → Applies table q size t i → ⊥
-  answered-none h a = let w = low-number table q size h in some-listed table q (w .some) (passed-ten table q size (w .passed) a .1)
+  pub answered-none : answerAround table closed q size .number < 2 → {t i : ℕ} → Applies table closed q size t i → ⊥
+  answered-none h a = let w = low-number table closed q size h in some-listed table closed q (w .some) (passed-ten table closed q size (w .passed) a .1)
 
   -- each number exactly where it is told
-  pub numbered : (n : ℕ) → 2 ≤ n → (answer table q size .number ≡ n) ↔ Told table q size n
-  numbered n two = (λ e. subst (Told table q size) e (refused-told (omega arith)), λ told. from told (ltb (answer table q size .number) 2) refl)
+  pub numbered : (n : ℕ) → 2 ≤ n → (answerAround table closed q size .number ≡ n) ↔ Told table closed q size n
+  numbered n two = (λ e. subst (Told table closed q size) e (refused-told (omega arith)), λ told. from told (ltb (answerAround table closed q size .number) 2) refl)
     where
-      from : Told table q size n → (b : Bool) → ltb (answer table q size .number) 2 ≡ b → answer table q size .number ≡ n
+      from : Told table closed q size n → (b : Bool) → ltb (answerAround table closed q size .number) 2 ≡ b → answerAround table closed q size .number ≡ n
       from told true l = absurd (answered-none (ltb-true _ _ l) (told .applies))
-      from told false l = told-same table q size (refused-told (ltb-false (answer table q size .number) 2 l)) told
+      from told false l = told-same table closed q size (refused-told (ltb-false (answerAround table closed q size .number) 2 l)) told
 
   -- that of no route, where no turn before comes to a number
-  pub no-route-exactly : NoneBefore table q size 10 → (answer table q size .number ≡ 10) ↔ NoRoute table q
+  pub no-route-exactly : NoneBefore table closed q size 11 → (answerAround table closed q size .number ≡ 10) ↔ NoRoute table closed q
   no-route-exactly before =
-      (λ e. told-none (numbered 10 (omega arith) .0 e), λ f. numbered 10 (omega arith) .1 (told-own table q size 10 (λ e. omega arith) (Applies.no-route f) before))
+      (λ e. told-none (numbered 10 (omega arith) .0 e), λ f. numbered 10 (omega arith) .1 (told-own table closed q size (λ e. omega arith) (Applies.no-route f) before))
     where
-      none : {i : ℕ} → Applies table q size 10 i → NoRoute table q
+      none : {i : ℕ} → Applies table closed q size 11 i → NoRoute table closed q
       none (Applies.no-route f) = f
 
-      told-none : Told table q size 10 → NoRoute table q
-      told-none told = none (subst (λ (t : ℕ). Applies table q size t 10) (own-turn table q size (omega arith) (told .applies)) (told .applies))
+      told-none : Told table closed q size 10 → NoRoute table closed q
+      told-none told = none (subst (λ (t : ℕ). Applies table closed q size t 10) (turn-ten table closed q size (told .applies)) (told .applies))
+
+  -- that of the closed set, where no turn before it does
+  pub set-exactly : NoneBefore table closed q size 10
+      → (answerAround table closed q size .number ≡ 16) ↔ ((length closed ≡ closedSize → ⊥) ⊎ ((k : ℕ) × (length (arcsOf table) ≤ k) × (isOpen (closedIn closed) k ≡ false)))
+  set-exactly before = (λ e. told-set (numbered 16 (omega arith) .0 e), λ f. numbered 16 (omega arith) .1 (told-own table closed q size (λ e. omega arith) (applies f) before))
+    where
+      Bad : Type 0
+      Bad = (length closed ≡ closedSize → ⊥) ⊎ ((k : ℕ) × (length (arcsOf table) ≤ k) × (isOpen (closedIn closed) k ≡ false))
+
+      applies : Bad → Applies table closed q size 10 16
+      applies (inl h) = Applies.set-not-whole h
+      applies (inr p) = Applies.set-past-table (p .0) (p .1) (p .2)
+
+      bad : {i : ℕ} → Applies table closed q size 10 i → Bad
+      bad (Applies.set-not-whole h) = inl h
+      bad (Applies.set-past-table k b h) = inr (k, b, h)
+
+      told-set : Told table closed q size 16 → Bad
+      told-set told = bad (subst (λ (t : ℕ). Applies table closed q size t 16) (turn-sixteen table closed q size (told .applies)) (told .applies))
 
   -- ---- the number of an arc
 
-  -- a number past 10 is told of an arc of the table
-  lowest : 10 < answer table q size .number → (i n : ℕ) → n < 256 → answer table q size .number ≡ n + 256 * i → LowestFault (arcsOf table) i n
-  lowest past = told-lowest table q size past (refused-told (omega arith))
+  -- a number past 16 is told of an arc of the table
+  lowest : 16 < answerAround table closed q size .number → (i n : ℕ) → n < 256 → answerAround table closed q size .number ≡ n + 256 * i → LowestFault (arcsOf table) i n
+  lowest past = told-lowest table closed q size past (refused-told (omega arith))
 
-  pub arc-apart : 10 < answer table q size .number → LowestFault (arcsOf table) (answer table q size .number / 256) (answer table q size .number % 256)
-  arc-apart past = lowest past (answer table q size .number / 256) (answer table q size .number % 256) (omega arith) (omega arith)
+  pub arc-apart : 16 < answerAround table closed q size .number → LowestFault (arcsOf table) (answerAround table closed q size .number / 256) (answerAround table closed q size .number % 256)
+  arc-apart past = lowest past (answerAround table closed q size .number / 256) (answerAround table closed q size .number % 256) (omega arith) (omega arith)
 
   -- where no turn before that of the arcs comes to a number, which arc it names, and which fault
-  pub arc-named : NoneBefore table q size 9 → (n i : ℕ) → 20 ≤ n → n ≤ 22 → (answer table q size .number ≡ n + 256 * i) ↔ LowestFault (arcsOf table) i n
+  pub arc-named : NoneBefore table closed q size 9 → (n i : ℕ) → 20 ≤ n → n ≤ 22 → (answerAround table closed q size .number ≡ n + 256 * i) ↔ LowestFault (arcsOf table) i n
   arc-named below n i low high = (
     λ e. lowest (omega arith) i n (omega arith) e,
-    λ l. numbered (n + 256 * i) (omega arith) .1 (subst (Told table q size) (omega (arith, l .first-fault)) (told-faulty table q size below (lowest-first (arcsOf table) l))),
+    λ l. numbered (n + 256 * i) (omega arith) .1 (subst (Told table closed q size) (omega (arith, l .first-fault)) (told-faulty table closed q size below (lowest-first (arcsOf table) l))),
   )
 
   -- no arc has a fault of number 23
-  pub never-spare : (i : ℕ) → answer table q size .number ≡ 23 + 256 * i → ⊥
+  pub never-spare : (i : ℕ) → answerAround table closed q size .number ≡ 23 + 256 * i → ⊥
   never-spare i e = let l = lowest (omega arith) i 23 (omega arith) e in omega (arith, l .first-fault, fault-range (faultOf (arcAt (arcsOf table) i)))
 
-  -- no number is 9, or past 10 without an arc
-  pub number-known : Known (answer table q size .number)
-  number-known = go (ltb (answer table q size .number) 2) refl
+  -- no number is 9, or past 10 without an arc but for 16
+  pub number-known : Known (answerAround table closed q size .number)
+  number-known = go (ltb (answerAround table closed q size .number) 2) refl
     where
-      go : (b : Bool) → ltb (answer table q size .number) 2 ≡ b → Known (answer table q size .number)
-      go true e = let low = ltb-true (answer table q size .number) 2 e in inl (omega arith, λ nine. omega arith)
-      go false e = told-known table q size (refused-told (ltb-false (answer table q size .number) 2 e))
+      go : (b : Bool) → ltb (answerAround table closed q size .number) 2 ≡ b → Known (answerAround table closed q size .number)
+      go true e = let low = ltb-true (answerAround table closed q size .number) 2 e in Known.to-ten {n = answerAround table closed q size .number} (omega arith) (λ nine. omega arith)
+      go false e = told-known table closed q size (refused-told (ltb-false (answerAround table closed q size .number) 2 e))

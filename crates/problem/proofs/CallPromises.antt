@@ -1,168 +1,202 @@
--- The promises, restated of calls of the entry: what the number returned and the bytes in the buffer must be, and what a second call with a larger allowance must give.
--- `Called` says what one call does; crates/entry/proofs/Contract.antt shows that the contract of `feshangul_plan` says just that. Assumes nothing.
+-- The promises, restated of calls of the planning entries: what the number returned and the bytes in the buffer must be, and what a second call with a larger allowance must give.
+-- `CalledAround` says what one call does; crates/entry/proofs/Contract.antt shows that the contract of `feshangul_plan_around` says just that, and that of `feshangul_plan` the same of a call
+-- with nothing closed (`noneClosed`). Assumes nothing.
 use mathlib.Core.Path.{_≡_, refl, sym, ap, _∙_}
 use mathlib.Core.Bool.{true, false}
 use mathlib.Core.Logic.{_⊎_, _↔_}
 use mathlib.Core.List.{List, [], List·Memᴰ}
 use Prim.Native.Nat.{ℕ, _+_, _*_, _/_, _%_, _≤_, _<_}
 use native.Mathlib.Omega.{arith}
-use lib.ListN.{length, take, drop}
+use lib.ListN.{length, getD, take, drop}
 use Rattle.laws.specs.Choosing.{Pairwise}
 use lib.Seq.{take-at, take-append-seam, drop-append-seam}
 use Rattle.problem.specs.declared.Request.{Request}
 use Rattle.problem.specs.Table.{mostArcs, mostShared, mostReach, mostAllowance, replySize, Bytes, over, recordAt, arcsOf}
 use Rattle.problem.specs.Routes.{Route, arcAt, metresOf}
-use Rattle.problem.specs.Spans.{plannedArcs}
+use Rattle.problem.specs.Closed.{closedSize, plannedArcs}
 use Rattle.problem.specs.Pairs.{pair, sharedRisks, sharedCount, sharedSpans, total, judged, NoWorse, ofRank, floor}
-use Rattle.problem.specs.Reply.{Answer, answer, after, sharedIn, sharedSpansIn, rankedIn, mainMetresIn, standbyMetresIn, totalIn, sharedRisksIn, mainIn, standbyIn}
-use Rattle.problem.specs.Calls.{routesOf, RouteOf, WayOf, pairMadeOf, pairSaid, allowing, Applies, Told, LowestFault, answerByRisks, Called}
+use Rattle.problem.specs.Reply.{Answer, ClosedSet, answerAround, after, sharedIn, sharedSpansIn, rankedIn, mainMetresIn, standbyMetresIn, totalIn, sharedRisksIn, mainIn, standbyIn}
+use Rattle.problem.specs.Calls.{routesOf, RouteOf, WayOf, pairMadeOf, pairSaid, allowing, Applies, Told, LowestFault, answerByRisks, answerOverAll, AllOpen, ClosesAside, CalledAround, Called}
 use Rattle.problem.specs.Mending.{mostFieldBytes, Clean, mendedTable, Change, mendedList, changesIn, oldNumber, roundedUp, Mending, mending, Mends, KeptAs, lost, Listed}
 use Rattle.problem.proofs.MendCallLaws as MendCallLaws
 use Rattle.problem.proofs.Promises as promised
 
-module _ {table : List ℕ} {q : Request} {before now : List ℕ} {number : ℕ} (c : Called table q before number now) where
+module _ {table closed : List ℕ} {q : Request} {before now : List ℕ} {number : ℕ} (c : CalledAround table closed q before number now) where
   -- the first 96 bytes
   abbrev reply : List ℕ
   reply = take replySize now
 
-  low : number < 2 → answer table q (length before) .number < 2
+  low : number < 2 → answerAround table closed q (length before) .number < 2
   low h = omega (arith, c .number-is)
 
-  zero-is : number ≡ 0 → answer table q (length before) .number ≡ 0
+  zero-is : number ≡ 0 → answerAround table closed q (length before) .number ≡ 0
   zero-is e = sym (c .number-is) ∙ e
 
   -- ==== Demand 1
 
   -- each number is returned exactly where its own test holds, none of an earlier turn, and in its own turn none of a smaller number
-  pub call-in-order : (n : ℕ) → 2 ≤ n → (number ≡ n) ↔ Told table q (length before) n
-  call-in-order = rw (c .number-is) (promised.checked-in-order table q (length before))
+  pub call-in-order : (n : ℕ) → 2 ≤ n → (number ≡ n) ↔ Told table closed q (length before) n
+  call-in-order = rw (c .number-is) (promised.checked-in-order table closed q (length before))
 
   -- a call is answered exactly where no test holds
-  pub call-answered : (number < 2) ↔ ((t i : ℕ) → Applies table q (length before) t i → ⊥)
-  call-answered = rw (c .number-is) (promised.answered-exactly table q (length before))
+  pub call-answered : (number < 2) ↔ ((t i : ℕ) → Applies table closed q (length before) t i → ⊥)
+  call-answered = rw (c .number-is) (promised.answered-exactly table closed q (length before))
 
   -- a refusal leaves every byte
   pub call-untouched : 2 ≤ number → now ≡ before
-  call-untouched h = c .buffer-is ∙ promised.refusal-keeps-buffer table q (length before) (omega (arith, c .number-is)) before
+  call-untouched h = c .buffer-is ∙ promised.refusal-keeps-buffer table closed q (length before) (omega (arith, c .number-is)) before
 
   -- an answer leaves every byte behind the 96
   pub call-keeps-rest : number < 2 → drop replySize now ≡ drop replySize before
-  call-keeps-rest h = ap (drop replySize) (c .buffer-is) ∙ promised.answer-keeps-rest table q (length before) (low h) before
+  call-keeps-rest h = ap (drop replySize) (c .buffer-is) ∙ promised.answer-keeps-rest table closed q (length before) (low h) before
 
   -- the 96 bytes are those of the answer
-  replied : number < 2 → reply ≡ answer table q (length before) .reply
+  replied : number < 2 → reply ≡ answerAround table closed q (length before) .reply
   unfolding after
   replied h =
       ap (take replySize) (c .buffer-is)
-      ∙ take-at (answer table q (length before) .reply) (drop (length (answer table q (length before) .reply)) before) replySize (promised.answer-writes-96 table q (length before) (low h))
+      ∙ take-at (answerAround table closed q (length before) .reply) (drop (length (answerAround table closed q (length before) .reply)) before) replySize (promised.answer-writes-96 table closed q (length before) (low h))
 
   module _ (answered : number < 2) where
     -- ==== Demand 2
 
     -- the arc numbers in the bytes are routes, of the metres and shared risks that the bytes say
-    pub call-routes : RouteOf table q (mainIn reply) × RouteOf table q (standbyIn reply)
-    call-routes = rw (replied answered) (promised.reply-routes table q (length before) (low answered))
+    pub call-routes : RouteOf table closed q (mainIn reply) × RouteOf table closed q (standbyIn reply)
+    call-routes = rw (replied answered) (promised.reply-routes table closed q (length before) (low answered))
 
-    pub call-metres : (mainMetresIn reply ≡ metresOf (plannedArcs table) (mainIn reply)) × (standbyMetresIn reply ≡ metresOf (plannedArcs table) (standbyIn reply))
-    call-metres = rw (replied answered) (promised.reply-metres table q (length before) (low answered))
+    pub call-metres : (mainMetresIn reply ≡ metresOf (plannedArcs table closed) (mainIn reply)) × (standbyMetresIn reply ≡ metresOf (plannedArcs table closed) (standbyIn reply))
+    call-metres = rw (replied answered) (promised.reply-metres table closed q (length before) (low answered))
 
-    pub call-shared : sharedIn reply ≡ sharedCount (pairSaid (plannedArcs table) reply)
-    call-shared = rw (replied answered) (promised.reply-shared table q (length before) (low answered))
+    pub call-shared : sharedIn reply ≡ sharedCount (pairSaid (plannedArcs table closed) reply)
+    call-shared = rw (replied answered) (promised.reply-shared table closed q (length before) (low answered))
 
-    pub call-spans : sharedSpansIn reply ≡ sharedSpans (pairSaid (plannedArcs table) reply)
-    call-spans = rw (replied answered) (promised.reply-spans table q (length before) (low answered))
+    pub call-spans : sharedSpansIn reply ≡ sharedSpans (pairSaid (plannedArcs table closed) reply)
+    call-spans = rw (replied answered) (promised.reply-spans table closed q (length before) (low answered))
 
-    pub call-risks : Bytes table → sharedRisksIn reply ≡ sharedRisks (pairSaid (plannedArcs table) reply)
-    call-risks = rw (replied answered) (promised.reply-risks table q (length before) (low answered))
+    pub call-risks : Bytes table → sharedRisksIn reply ≡ sharedRisks (pairSaid (plannedArcs table closed) reply)
+    call-risks = rw (replied answered) (promised.reply-risks table closed q (length before) (low answered))
 
     -- the main is among the first `allowance` routes, the standby is any route, and every other such pair comes after it
-    pub call-main : List·Memᴰ (pairSaid (plannedArcs table) reply .main) (take (q .allowance) (routesOf table q))
-    call-main = rw (replied answered) (promised.main-allowed table q (length before) (low answered))
+    pub call-main : List·Memᴰ (pairSaid (plannedArcs table closed) reply .main) (take (q .allowance) (routesOf table closed q))
+    call-main = rw (replied answered) (promised.main-allowed table closed q (length before) (low answered))
 
-    pub call-standby : List·Memᴰ (pairSaid (plannedArcs table) reply .standby) (routesOf table q)
-    call-standby = rw (replied answered) (promised.standby-any table q (length before) (low answered))
+    pub call-standby : List·Memᴰ (pairSaid (plannedArcs table closed) reply .standby) (routesOf table closed q)
+    call-standby = rw (replied answered) (promised.standby-any table closed q (length before) (low answered))
 
-    pub call-none-before : (m s : Route) → List·Memᴰ m (take (q .allowance) (routesOf table q)) → List·Memᴰ s (routesOf table q) → judged (pair m s) (pairSaid (plannedArcs table) reply) ≡ false
-    call-none-before = rw (replied answered) (promised.none-before table q (length before) (low answered))
+    pub call-none-before : (m s : Route) → List·Memᴰ m (take (q .allowance) (routesOf table closed q)) → List·Memᴰ s (routesOf table closed q) → judged (pair m s) (pairSaid (plannedArcs table closed) reply) ≡ false
+    call-none-before = rw (replied answered) (promised.none-before table closed q (length before) (low answered))
 
-    pub call-others-after : (m s : Route) → List·Memᴰ m (take (q .allowance) (routesOf table q)) → List·Memᴰ s (routesOf table q)
-        → (pair m s ≡ pairSaid (plannedArcs table) reply) ⊎ (judged (pairSaid (plannedArcs table) reply) (pair m s) ≡ true)
-    call-others-after = rw (replied answered) (promised.others-after table q (length before) (low answered))
+    pub call-others-after : (m s : Route) → List·Memᴰ m (take (q .allowance) (routesOf table closed q)) → List·Memᴰ s (routesOf table closed q)
+        → (pair m s ≡ pairSaid (plannedArcs table closed) reply) ⊎ (judged (pairSaid (plannedArcs table closed) reply) (pair m s) ≡ true)
+    call-others-after = rw (replied answered) (promised.others-after table closed q (length before) (low answered))
 
     -- ==== Demand 3
 
     -- settled exactly by 01's rule, read off the bytes
     pub call-settled : (number ≡ 0)
-        ↔ ((rankedIn reply ≡ length (routesOf table q))
-        ⊎ ((sharedCount (pairSaid (plannedArcs table) reply) ≡ floor (routesOf table q)) × (total (pairSaid (plannedArcs table) reply) ≤ 2 * ofRank (routesOf table q) (rankedIn reply) .metres)))
-    call-settled = rw (replied answered, c .number-is) (promised.settled-exactly table q (length before) (low answered))
+        ↔ ((rankedIn reply ≡ length (routesOf table closed q))
+        ⊎ ((sharedCount (pairSaid (plannedArcs table closed) reply) ≡ floor (routesOf table closed q)) × (total (pairSaid (plannedArcs table closed) reply) ≤ 2 * ofRank (routesOf table closed q) (rankedIn reply) .metres)))
+    call-settled = rw (replied answered, c .number-is) (promised.settled-exactly table closed q (length before) (low answered))
 
     -- an allowance of at least N settles
-    pub call-settles : length (routesOf table q) ≤ q .allowance → number ≡ 0
-    call-settles all = c .number-is ∙ promised.all-routes-settle table q (length before) (low answered) all
+    pub call-settles : length (routesOf table closed q) ≤ q .allowance → number ≡ 0
+    call-settles all = c .number-is ∙ promised.all-routes-settle table closed q (length before) (low answered) all
 
     -- settled: no two ways within reach do better than what the bytes say
-    pub call-no-better : number ≡ 0 → (u v : List ℕ) → WayOf table q u → WayOf table q v
-        → NoWorse (sharedIn reply) (totalIn reply) (sharedCount (pairMadeOf (plannedArcs table) u v)) (total (pairMadeOf (plannedArcs table) u v))
-    call-no-better e = rw (replied answered) (promised.settled-no-better table q (length before) (low answered) (zero-is e))
+    pub call-no-better : number ≡ 0 → (u v : List ℕ) → WayOf table closed q u → WayOf table closed q v
+        → NoWorse (sharedIn reply) (totalIn reply) (sharedCount (pairMadeOf (plannedArcs table closed) u v)) (total (pairMadeOf (plannedArcs table closed) u v))
+    call-no-better e = rw (replied answered) (promised.settled-no-better table closed q (length before) (low answered) (zero-is e))
 
   -- ==== Request T-10
 
   -- no route in the bytes is longer than 62,000,000 metres
   pub call-within : number < 2 → (mainMetresIn reply ≤ mostReach) × (standbyMetresIn reply ≤ mostReach)
-  call-within h = rw (replied h) (promised.reply-within table q (length before) (low h))
+  call-within h = rw (replied h) (promised.reply-within table closed q (length before) (low h))
 
   -- number 11 has ended: it is returned for no call
   pub call-never-eleven : number ≡ 11 → ⊥
-  call-never-eleven e = promised.never-eleven table q (length before) (sym (c .number-is) ∙ e)
+  call-never-eleven e = promised.never-eleven table closed q (length before) (sym (c .number-is) ∙ e)
 
   -- ==== Request T-02
 
   -- once the checks before have passed, the number is n + 256 i exactly where arc i has the fault of number n as its first and every arc below i is sound
-  pub call-names : ((t i : ℕ) → t < 9 → Applies table q (length before) t i → ⊥) → (n i : ℕ) → 20 ≤ n → n ≤ 22 → (number ≡ n + 256 * i) ↔ LowestFault (arcsOf table) i n
-  call-names = rw (c .number-is) (promised.arc-named table q (length before))
+  pub call-names : ((t i : ℕ) → t < 9 → Applies table closed q (length before) t i → ⊥) → (n i : ℕ) → 20 ≤ n → n ≤ 22 → (number ≡ n + 256 * i) ↔ LowestFault (arcsOf table) i n
+  call-names = rw (c .number-is) (promised.arc-named table closed q (length before))
 
-  -- any number past 10, taken apart
-  pub call-apart : 10 < number → LowestFault (arcsOf table) (number / 256) (number % 256)
-  call-apart = rw (c .number-is) (promised.arc-apart table q (length before))
+  -- any number past 16, taken apart
+  pub call-apart : 16 < number → LowestFault (arcsOf table) (number / 256) (number % 256)
+  call-apart = rw (c .number-is) (promised.arc-apart table closed q (length before))
 
   -- number 9 has ended: it is returned for no call
   pub call-never-nine : number ≡ 9 → ⊥
-  call-never-nine e = promised.never-nine table q (length before) (sym (c .number-is) ∙ e)
+  call-never-nine e = promised.never-nine table closed q (length before) (sym (c .number-is) ∙ e)
 
   -- ==== Request T-03
 
   -- at most 95 are shared, and at most 31 of them are spans
   pub call-most : number < 2 → (sharedIn reply ≤ mostShared) × (sharedSpansIn reply ≤ mostArcs)
-  call-most h = rw (replied h) (promised.reply-most table q (length before) (low h))
+  call-most h = rw (replied h) (promised.reply-most table closed q (length before) (low h))
 
   -- a table with no span number: the number and the buffer are those of the answer with spans left out
   pub call-as-before : ((k : ℕ) → k < length (arcsOf table) → arcAt (arcsOf table) k .span ≡ 0)
-      → (number ≡ answerByRisks table q (length before) .number) × (now ≡ after (answerByRisks table q (length before)) before)
+      → (number ≡ answerByRisks table closed q (length before) .number) × (now ≡ after (answerByRisks table closed q (length before)) before)
   call-as-before none =
-      let same = promised.as-before table q (length before) none in
+      let same = promised.as-before table closed q (length before) none in
       (c .number-is ∙ ap (λ (a : Answer). a .number) same, c .buffer-is ∙ ap (λ (a : Answer). after a before) same)
 
   -- number 23 has ended: it is returned for no call, of whichever arc
   pub call-never-twenty-three : (i : ℕ) → number ≡ 23 + 256 * i → ⊥
-  call-never-twenty-three i e = promised.never-twenty-three table q (length before) i (sym (c .number-is) ∙ e)
+  call-never-twenty-three i e = promised.never-twenty-three table closed q (length before) i (sym (c .number-is) ∙ e)
 
 -- two calls on the same buffer, the second with a larger permitted allowance
-module _ {table : List ℕ} {q : Request} {b : ℕ} {before now later : List ℕ} {first second : ℕ} (c : Called table q before first now) (d : Called table (allowing q b) before second later)
+module _ {table closed : List ℕ} {q : Request} {b : ℕ} {before now later : List ℕ} {first second : ℕ} (c : CalledAround table closed q before first now) (d : CalledAround table closed (allowing q b) before second later)
     (answered : first < 2) (more : q .allowance ≤ b) (permitted : b ≤ mostAllowance) where
   -- settled: the same number and the same bytes
   pub call-stays : first ≡ 0 → (second ≡ 0) × (later ≡ now)
   call-stays e =
-      let s = promised.settled-stays table q (length before) (low c answered) b more permitted (zero-is c e) in
+      let s = promised.settled-stays table closed q (length before) (low c answered) b more permitted (zero-is c e) in
       (d .number-is ∙ ap (λ a. a .number) s ∙ zero-is c e, d .buffer-is ∙ ap (λ a. after a before) s ∙ sym (c .buffer-is))
 
   -- settled or stopped: answered, no worse, and by the whole judgement no later
   pub call-never-worse : (second < 2) × NoWorse (sharedIn (take replySize later)) (totalIn (take replySize later)) (sharedIn (take replySize now)) (totalIn (take replySize now))
-      × (judged (pairSaid (plannedArcs table) (take replySize now)) (pairSaid (plannedArcs table) (take replySize later)) ≡ false)
+      × (judged (pairSaid (plannedArcs table closed) (take replySize now)) (pairSaid (plannedArcs table closed) (take replySize later)) ≡ false)
   call-never-worse =
-      let w = promised.never-worse table q (length before) (low c answered) b more permitted in
+      let w = promised.never-worse table closed q (length before) (low c answered) b more permitted in
       let too : second < 2 = omega (arith, d .number-is, w .0) in
       rw (replied c answered, replied d too) (too, w .1, w .2)
+
+-- ==== Request T-06
+
+-- no arc in the bytes is closed
+pub call-open : {table closed : List ℕ} {q : Request} {before now : List ℕ} {number : ℕ} → (c : CalledAround table closed q before number now) → number < 2
+    → AllOpen closed (mainIn (take replySize now)) × AllOpen closed (standbyIn (take replySize now))
+call-open {table} {closed} {q} {before} c h = rw (replied c h) (promised.reply-open table closed q (length before) (low c h))
+
+-- two calls with closed sets that give the same answer return the same number and leave the same buffer
+same-call : {table closed more : List ℕ} {q : Request} {before now later : List ℕ} {first second : ℕ} → CalledAround table closed q before first now → CalledAround table more q before second later
+    → answerAround table more q (length before) ≡ answerAround table closed q (length before) → (second ≡ first) × (later ≡ now)
+same-call {before = before} c d e =
+    (d .number-is ∙ ap (λ (a : Answer). a .number) e ∙ sym (c .number-is), d .buffer-is ∙ ap (λ (a : Answer). after a before) e ∙ sym (c .buffer-is))
+
+-- with no arc closed, the entry that takes a closed set does as the one that takes none
+pub call-none-closed : {table closed : List ℕ} {q : Request} {before now later : List ℕ} {first second : ℕ} → Called table q before first now → CalledAround table closed q before second later
+    → length closed ≡ closedSize → ((k : ℕ) → k < closedSize → getD closed k 0 ≡ 0) → (second ≡ first) × (later ≡ now)
+call-none-closed {table} {closed} {q} {before} c d whole zeros = same-call c d (promised.none-closed table closed q (length before) whole zeros)
+
+-- which does as before there were closed sets, and never returns 16
+pub call-over-all : {table : List ℕ} {q : Request} {before now : List ℕ} {number : ℕ} → Called table q before number now
+    → (number ≡ answerOverAll table q (length before) .number) × (now ≡ after (answerOverAll table q (length before)) before)
+call-over-all {table} {q} {before} c =
+    let same = promised.as-over-all table q (length before) in
+    (c .number-is ∙ ap (λ (a : Answer). a .number) same, c .buffer-is ∙ ap (λ (a : Answer). after a before) same)
+
+pub call-never-sixteen : {table : List ℕ} {q : Request} {before now : List ℕ} {number : ℕ} → Called table q before number now → number ≡ 16 → ⊥
+call-never-sixteen {table} {q} {before} c e = promised.never-sixteen table q (length before) (sym (c .number-is) ∙ e)
+
+-- closing arcs that lie on no route: the same number and the same bytes
+pub call-aside : {table closed more : List ℕ} {q : Request} {before now later : List ℕ} {first second : ℕ} → CalledAround table closed q before first now → CalledAround table more q before second later
+    → ClosedSet table closed → ClosedSet table more → ClosesAside table closed more q → (second ≡ first) × (later ≡ now)
+call-aside {table} {closed} {more} {q} {before} c d s t aside = same-call c d (promised.closing-aside table closed more q (length before) s t aside)
 
 -- ==== Request T-01, of calls of the mender
 

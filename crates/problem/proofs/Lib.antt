@@ -6,6 +6,7 @@ pub mod TableLaws
 pub mod SpanLaws
 pub mod RouteLaws
 pub mod PathLaws
+pub mod ClosedLaws
 pub mod GrowthLaws
 pub mod RankingLaws
 pub mod PairLaws
@@ -15,6 +16,7 @@ pub mod WayLaws
 pub mod RefusalLaws
 pub mod ReplyLaws
 pub mod CallLaws
+pub mod AroundLaws
 pub mod SaidLaws
 pub mod DigitLaws
 pub mod PrintedLaws

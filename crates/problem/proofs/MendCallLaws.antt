@@ -10,7 +10,7 @@ use lib.ListN.{length}
 use borrow.Author.Tests.{ltb-true, ltb-false, lt-ltb, le-ltb}
 use Rattle.problem.specs.declared.Request.{Request}
 use Rattle.problem.specs.Table.{arcsOf}
-use Rattle.problem.specs.Reply.{firstNumber, answer}
+use Rattle.problem.specs.Reply.{firstNumber, answerAround}
 use Rattle.problem.specs.Calls.{Applies}
 use Rattle.problem.specs.Mending.{mostFieldBytes, Clean, mendedTable, mendedList, roundedUp, Mending, mendChecks, mendingUnless, mending}
 use Rattle.problem.proofs.FaultLaws.{sound-none}
@@ -103,10 +103,10 @@ module _ (input : List ℕ) (tableSize listSize : ℕ) where
 
 -- its number is none of those that a table is refused for
 abbrev pub NotForTheTable : ℕ → Type 0
-NotForTheTable n = (n ≡ 2 → ⊥) × (n ≡ 3 → ⊥) × (n ≤ 10)
+NotForTheTable n = (n ≡ 2 → ⊥) × (n ≡ 3 → ⊥) × (n ≤ 16)
 
-module _ {table : List ℕ} (clean : Clean table) (q : Request) (size : ℕ) where
-  clean-applies : {t i : ℕ} → Applies table q size t i → NotForTheTable i
+module _ {table : List ℕ} (clean : Clean table) (closed : List ℕ) (q : Request) (size : ℕ) where
+  clean-applies : {t i : ℕ} → Applies table closed q size t i → NotForTheTable i
   clean-applies (Applies.table-too-long h) = absurd (omega (arith, clean .few-bytes))
   clean-applies (Applies.table-torn h) = absurd (h (clean .whole-arcs))
   clean-applies (Applies.buffer-too-small h) = omega arith
@@ -117,11 +117,13 @@ module _ {table : List ℕ} (clean : Clean table) (q : Request) (size : ℕ) whe
   clean-applies (Applies.allowance-none h) = omega arith
   clean-applies (Applies.allowance-too-large h) = omega arith
   clean-applies (Applies.arc-faulty k f b h) = absurd (sound-none (sound-at (arcsOf table) (clean .sound) k b) h)
+  clean-applies (Applies.set-not-whole h) = omega arith
+  clean-applies (Applies.set-past-table k b h) = omega arith
   clean-applies (Applies.no-route h) = omega arith
 
-  pub clean-planned : NotForTheTable (answer table q size .number)
-  clean-planned = go (ltb (answer table q size .number) 2) refl
+  pub clean-planned : NotForTheTable (answerAround table closed q size .number)
+  clean-planned = go (ltb (answerAround table closed q size .number) 2) refl
     where
-      go : (b : Bool) → ltb (answer table q size .number) 2 ≡ b → NotForTheTable (answer table q size .number)
-      go true e = let low = ltb-true (answer table q size .number) 2 e in omega arith
-      go false e = clean-applies (refused-told table q size (ltb-false _ _ e) .applies)
+      go : (b : Bool) → ltb (answerAround table closed q size .number) 2 ≡ b → NotForTheTable (answerAround table closed q size .number)
+      go true e = let low = ltb-true (answerAround table closed q size .number) 2 e in omega arith
+      go false e = clean-applies (refused-told table closed q size (ltb-false _ _ e) .applies)

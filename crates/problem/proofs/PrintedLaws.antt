@@ -11,6 +11,7 @@ use borrow.Author.Tests.{ltb-true, lt-ltb, eqb-true, eqb-false, ne-eqb, not-true
 use Rattle.laws.proofs.BoolLaws.{or-cases}
 use Rattle.problem.specs.Table.{replySize, numberAt}
 use Rattle.problem.specs.Opened.{opened}
+use Rattle.problem.specs.Closed.{noneClosed}
 use Rattle.problem.specs.Reply.{Answer, answer, verdictIn}
 use Rattle.problem.specs.Printed.{text, digits, fields, lines, printed, requestOf, faulty, Unreadable, output}
 use Rattle.problem.proofs.DigitLaws.{digits-same}
@@ -112,13 +113,14 @@ unfolding opened
 text-of-twelve = refl
 
 known-short : {n : ℕ} → Known n → n < 10 ^ 10
-known-short (inl h) = omega (arith, h .0)
-known-short (inr h) = omega (arith, h .1)
+known-short (Known.to-ten low other) = omega arith
+known-short Known.sixteen = omega arith
+known-short (Known.of-an-arc low high) = omega arith
 
 -- an answer of the entry is printed as refused by a number of the entry
 entry-known : (input : List ℕ) (n : ℕ) → n < 10 ^ 10 → printed (answer (drop 16 input) (requestOf input) replySize) ≡ refusedText n → Known n
 entry-known input n h e =
-    let known = number-known (drop 16 input) (requestOf input) replySize in
+    let known = number-known (drop 16 input) noneClosed (requestOf input) replySize in
     subst Known (printed-number (answer (drop 16 input) (requestOf input) replySize) n (known-short known) h e) known
 
 pub twelve-exactly : (input : List ℕ) → (output input ≡ text "refused 12\n") ↔ Unreadable input

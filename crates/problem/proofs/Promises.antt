@@ -1,35 +1,42 @@
 -- The promises: the customer's three demands of every call, and what his customers' requests add, as theorems over the definitions of specs/. To know what is promised nothing else needs to be read.
--- A call has a table of any bytes, a request of any numbers and a reply buffer of any size; `answer` gives its number and the bytes that it writes.
+-- A call has a table of any bytes, a closed set of any bytes (T-06), a request of any numbers and a reply buffer of any size; `answerAround` gives its number and the bytes that it writes.
+-- The entry that takes no closed set is called with `noneClosed` here: `as-over-all` and `never-sixteen` say that nothing of closed sets is left in its answer.
 -- CallPromises.antt says the same of calls of the entry itself, by the number returned and the bytes in the buffer; the entry ends for every call. Assumes nothing.
 use mathlib.Core.Path.{_≡_, refl, sym, ap, _∙_, subst}
 use mathlib.Core.Bool.{Bool, true, false}
 use mathlib.Core.Logic.{_⊎_, inl, inr, _↔_}
 use mathlib.Core.List.{List, [], _∷_, _++_, List·Memᴰ}
 use Prim.Native.Nat.{ℕ, zero, suc, _+_, _*_, _/_, _%_, _≤_, _<_, min}
+use native.Mathlib.Nat.{zero-add}
 use native.Mathlib.Omega.{arith}
-use lib.Dec.{ltb}
-use lib.ListN.{length, take, drop}
-use lib.Seq.{drop-append-seam}
+use lib.Dec.{eqb, ltb}
+use lib.ListN.{length, getD, take, drop, getD-replicate}
+use lib.Seq.{drop-append-seam, ext-getD}
 use borrow.Author.Tests.{ltb-true, ltb-false}
 use Rattle.laws.specs.Choosing.{Pairwise, lexBy}
-use Rattle.laws.specs.Sets.{inBoth}
+use Rattle.laws.specs.Sets.{bit, inBoth}
 use Rattle.problem.specs.declared.Arc.{Arc}
+use Rattle.problem.specs.declared.Exposure.{Exposure}
 use Rattle.problem.specs.declared.Fault.{Fault}
 use Rattle.problem.specs.declared.Fault.the-variants.{Sound}
 use Rattle.problem.specs.declared.Request.{Request}
-use Rattle.problem.specs.Table.{mostArcs, riskWidth, mostShared, mostReach, mostAllowance, replySize, Bytes, recordAt, arcsOf, SoundArc, HasFault, faultOf, faultNumber, allSound}
-use Rattle.problem.specs.Routes.{arcAt, metresOf, exposureOf, IsPath, Route, routeOf, ranking, precedes}
-use Rattle.problem.specs.Spans.{mark, withSpan, spanless, plannedArcs}
+use Rattle.problem.specs.Table.{lastNode, mostArcs, riskWidth, mostShared, mostReach, mostAllowance, replySize, Bytes, recordAt, arcsOf, SoundArc, HasFault, faultOf, faultNumber, allSound}
+use Rattle.problem.specs.Routes.{arcAt, metresOf, exposureOf, IsWay, IsPath, IsRoute, FreeWay, Route, routeOf, ranking, precedes}
+use Rattle.problem.specs.Spans.{mark, withSpan, spanless, markedArcs}
+use Rattle.problem.specs.Closed.{closedSize, closedIn, isOpen, noneClosed, shut, shutIn, plannedArcs}
 use Rattle.problem.specs.Exposures.{spansIn}
 use Rattle.problem.specs.Pairs.{Pair, pair, sharedRisks, sharedCount, sharedSpans, total, judged, NoWorse, Step, ofRank, rankedKey, floor, every, leastSettled, ranked}
-use Rattle.problem.specs.Reply.{meshOver, meshOf, planned, refusal, answerUnless, answer, after, verdictIn, sharedIn, floorIn, sharedSpansIn, rankedIn, mainMetresIn, standbyMetresIn, totalIn, sharedRisksIn, mainIn, standbyIn}
+use Rattle.problem.specs.Reply.{meshOver, meshOf, planned, refusal, ClosedSet, answerUnless, answerAround, answer, after, verdictIn, sharedIn, floorIn, sharedSpansIn, rankedIn, mainMetresIn, standbyMetresIn, totalIn, sharedRisksIn, mainIn, standbyIn}
 use Rattle.problem.specs.Printed.{kilometres, text, printed, requestOf, Unreadable, output}
 use Rattle.problem.specs.Mending.{mostFieldBytes, Clean, wholeArcs, newNumber, mendedTable, Change, mendedList, changesIn, oldNumber, KeptAs, lost, Listed}
-use Rattle.problem.specs.Calls.{routesOf, RouteOf, WayOf, pairMadeOf, pairSaid, allowing, Applies, Told, LowestFault, byRisksUnless, answerByRisks}
+use Rattle.problem.specs.Calls.{routesOf, RouteOf, WayOf, pairMadeOf, pairSaid, allowing, Applies, Told, LowestFault, plannedUnless, answerByRisks, answerOverAll, AllOpen, ClosesAside}
 use Rattle.problem.proofs.FaultLaws as FaultLaws
+use Rattle.problem.proofs.ByteLaws as ByteLaws
 use Rattle.problem.proofs.ExposureLaws.{spans-few}
 use Rattle.problem.proofs.SpanLaws as SpanLaws
-use Rattle.problem.proofs.SpanLaws.{planned-sound}
+use Rattle.problem.proofs.ClosedLaws as ClosedLaws
+use Rattle.problem.proofs.ClosedLaws.{planned-heads, planned-range}
+use Rattle.problem.proofs.AroundLaws as AroundLaws
 use Rattle.problem.proofs.PathLaws as PathLaws
 use Rattle.problem.proofs.RankingLaws.{ranking-exact, ranking-strict}
 use Rattle.problem.proofs.PairLaws as PairLaws
@@ -42,49 +49,49 @@ use Rattle.problem.proofs.MendLaws as MendLaws
 use Rattle.problem.proofs.ChangeLaws as ChangeLaws
 use Rattle.problem.proofs.MendCallLaws as MendCallLaws
 
-module _ (table : List ℕ) (q : Request) (size : ℕ) where
+module _ (table closed : List ℕ) (q : Request) (size : ℕ) where
   -- the number returned, and the bytes written
   abbrev number : ℕ
-  number = answer table q size .number
+  number = answerAround table closed q size .number
 
   abbrev reply : List ℕ
-  reply = answer table q size .reply
+  reply = answerAround table closed q size .reply
 
   abbrev arcs : List Arc
-  arcs = plannedArcs table
+  arcs = plannedArcs table closed
 
   abbrev routes : List Route
-  routes = routesOf table q
+  routes = routesOf table closed q
 
   -- ==== Demand 1. "For every table, request and reply buffer the planner ends and answers; it checks everything itself, in a fixed order,
   -- ==== refuses by number, and a refusal changes no byte of the reply; 'no route' exactly when none fits the reach."
 
   -- each number is given exactly where its own test holds, none of an earlier turn, and in its own turn none of a smaller number
-  pub checked-in-order : (n : ℕ) → 2 ≤ n → (number ≡ n) ↔ Told table q size n
-  checked-in-order = numbered table q size
+  pub checked-in-order : (n : ℕ) → 2 ≤ n → (number ≡ n) ↔ Told table closed q size n
+  checked-in-order = numbered table closed q size
 
   -- a call is answered exactly where no test holds
-  pub answered-exactly : (number < 2) ↔ ((t i : ℕ) → Applies table q size t i → ⊥)
-  answered-exactly = (λ h t i a. answered-none table q size h a, λ f. go f (ltb number 2) refl)
+  pub answered-exactly : (number < 2) ↔ ((t i : ℕ) → Applies table closed q size t i → ⊥)
+  answered-exactly = (λ h t i a. answered-none table closed q size h a, λ f. go f (ltb number 2) refl)
     where
-      go : ((t i : ℕ) → Applies table q size t i → ⊥) → (b : Bool) → ltb number 2 ≡ b → number < 2
+      go : ((t i : ℕ) → Applies table closed q size t i → ⊥) → (b : Bool) → ltb number 2 ≡ b → number < 2
       go f true e = ltb-true number 2 e
-      go f false e = absurd (f _ number (refused-told table q size (ltb-false number 2 e) .applies))
+      go f false e = absurd (f _ number (refused-told table closed q size (ltb-false number 2 e) .applies))
 
   -- "no route" exactly where, no earlier test holding, no route fits the reach
-  pub ten-exactly : ((t i : ℕ) → t < 10 → Applies table q size t i → ⊥) → (number ≡ 10) ↔ ((ks : List ℕ) → RouteOf table q ks → ⊥)
-  ten-exactly below = no-route-exactly table q size below
+  pub ten-exactly : ((t i : ℕ) → t < 11 → Applies table closed q size t i → ⊥) → (number ≡ 10) ↔ ((ks : List ℕ) → RouteOf table closed q ks → ⊥)
+  ten-exactly below = no-route-exactly table closed q size below
 
   -- a refusal leaves every byte of the buffer
-  pub refusal-keeps-buffer : 2 ≤ number → (buffer : List ℕ) → after (answer table q size) buffer ≡ buffer
+  pub refusal-keeps-buffer : 2 ≤ number → (buffer : List ℕ) → after (answerAround table closed q size) buffer ≡ buffer
   unfolding after
-  refusal-keeps-buffer h buffer = rw (high-number table q size h)
+  refusal-keeps-buffer h buffer = rw (high-number table closed q size h)
 
   -- an answer writes 96 bytes and leaves those behind them
   pub answer-writes-96 : number < 2 → length reply ≡ replySize
-  answer-writes-96 h = Said.reply-size (low-number table q size h)
+  answer-writes-96 h = Said.reply-size (low-number table closed q size h)
 
-  pub answer-keeps-rest : number < 2 → (buffer : List ℕ) → drop replySize (after (answer table q size) buffer) ≡ drop replySize buffer
+  pub answer-keeps-rest : number < 2 → (buffer : List ℕ) → drop replySize (after (answerAround table closed q size) buffer) ≡ drop replySize buffer
   unfolding after
   answer-keeps-rest h buffer =
       let e = answer-writes-96 h in
@@ -95,23 +102,23 @@ module _ (table : List ℕ) (q : Request) (size : ℕ) where
 
   -- the ranking puts each route before all later ones, and the judgement of pairs is that of shared count, total, rank of the main, rank of the standby
   pub ranking-in-order : Pairwise (λ (r s : Route). precedes r s ≡ true) routes
-  ranking-in-order = ranking-strict (meshOf table q)
+  ranking-in-order = ranking-strict (meshOf table closed q)
 
   pub judged-by-rank : {m s m′ s′ : ℕ} → Step routes m → Step routes s → Step routes m′ → Step routes s′
       → judged (pair (ofRank routes m) (ofRank routes s)) (pair (ofRank routes m′) (ofRank routes s′)) ≡ lexBy ltb (rankedKey routes m s) (rankedKey routes m′ s′)
   judged-by-rank = PairLaws.judged-by-rank routes ranking-in-order
 
   module _ (answered : number < 2) where
-    w : WithPair table q size
-    w = low-number table q size answered
+    w : WithPair table closed q size
+    w = low-number table closed q size answered
 
     -- the ranking has every route and nothing else
-    pub ranking-has : (ks : List ℕ) → List·Memᴰ (routeOf arcs ks) routes ↔ RouteOf table q ks
+    pub ranking-has : (ks : List ℕ) → List·Memᴰ (routeOf arcs ks) routes ↔ RouteOf table closed q ks
     ranking-has ks =
-        ranking-exact (meshOf table q) (PathLaws.sound-heads arcs (planned-sound table (w .passed .checked .sound))) (w .passed .checked .source-node) ks
+        ranking-exact (meshOf table closed q) (planned-heads table closed (w .passed .checked .sound)) (w .passed .checked .source-node) ks
 
     -- the arc numbers in the bytes are routes
-    pub reply-routes : RouteOf table q (mainIn reply) × RouteOf table q (standbyIn reply)
+    pub reply-routes : RouteOf table closed q (mainIn reply) × RouteOf table closed q (standbyIn reply)
     reply-routes = Said.said-routes w
 
     -- of exactly the metres that the bytes say
@@ -174,7 +181,7 @@ module _ (table : List ℕ) (q : Request) (size : ℕ) where
     stopped-past = Said.stopped-number w
 
     -- settled: no two ways within reach, loops or the same way twice allowed, share fewer, or as many at a smaller total
-    pub settled-no-better : number ≡ 0 → (u v : List ℕ) → WayOf table q u → WayOf table q v
+    pub settled-no-better : number ≡ 0 → (u v : List ℕ) → WayOf table closed q u → WayOf table closed q v
         → NoWorse (sharedIn reply) (totalIn reply) (sharedCount (pairMadeOf arcs u v)) (total (pairMadeOf arcs u v))
     settled-no-better e u v = Said.no-better-ways w e {u = u} {v = v}
 
@@ -185,13 +192,13 @@ module _ (table : List ℕ) (q : Request) (size : ℕ) where
     -- and for every larger permitted allowance:
     module _ (b : ℕ) (more : q .allowance ≤ b) (permitted : b ≤ mostAllowance) where
       -- settled: the same number and the same 96 bytes
-      pub settled-stays : number ≡ 0 → answer table (allowing q b) size ≡ answer table q size
+      pub settled-stays : number ≡ 0 → answerAround table closed (allowing q b) size ≡ answerAround table closed q size
       settled-stays = Said.same-answer w b more permitted
 
       -- settled or stopped: answered, no worse, and by the whole judgement no later
-      pub never-worse : (answer table (allowing q b) size .number < 2)
-          × NoWorse (sharedIn (answer table (allowing q b) size .reply)) (totalIn (answer table (allowing q b) size .reply)) (sharedIn reply) (totalIn reply)
-          × (judged (pairSaid arcs reply) (pairSaid arcs (answer table (allowing q b) size .reply)) ≡ false)
+      pub never-worse : (answerAround table closed (allowing q b) size .number < 2)
+          × NoWorse (sharedIn (answerAround table closed (allowing q b) size .reply)) (totalIn (answerAround table closed (allowing q b) size .reply)) (sharedIn reply) (totalIn reply)
+          × (judged (pairSaid arcs reply) (pairSaid arcs (answerAround table closed (allowing q b) size .reply)) ≡ false)
       never-worse =
           (Said.larger-answered w b more permitted, Said.no-worse-pair w b more permitted, rw (Said.said-is w, Said.said-is (Said.pair-allowing b w more permitted)) (Said.no-later w b more permitted))
 
@@ -207,29 +214,29 @@ pub no-path-longer : (arcs : List Arc) → allSound arcs ≡ true → (v to : �
 no-path-longer arcs sound v to ks = PathLaws.path-range arcs sound
 
 -- so no route of a reply is longer
-pub reply-within : (table : List ℕ) (q : Request) (size : ℕ) → number table q size < 2
-    → (mainMetresIn (reply table q size) ≤ mostReach) × (standbyMetresIn (reply table q size) ≤ mostReach)
-reply-within table q size h = Said.said-within (low-number table q size h)
+pub reply-within : (table closed : List ℕ) (q : Request) (size : ℕ) → number table closed q size < 2
+    → (mainMetresIn (reply table closed q size) ≤ mostReach) × (standbyMetresIn (reply table closed q size) ≤ mostReach)
+reply-within table closed q size h = Said.said-within (low-number table closed q size h)
 
 -- and a reach of 62,000,000 metres sets no limit: the routes are all such lists from source to terminal
-pub largest-reach : (table : List ℕ) (q : Request) → allSound (arcsOf table) ≡ true → q .reach ≡ mostReach
-    → (ks : List ℕ) → RouteOf table q ks ↔ IsPath (plannedArcs table) (q .source) (q .terminal) ks
-largest-reach table q sound = PathLaws.largest-reach (meshOf table q) (planned-sound table sound)
+pub largest-reach : (table closed : List ℕ) (q : Request) → allSound (arcsOf table) ≡ true → q .source ≤ lastNode → q .reach ≡ mostReach
+    → (ks : List ℕ) → RouteOf table closed q ks ↔ IsPath (plannedArcs table closed) (q .source) (q .terminal) ks
+largest-reach table closed q sound node e ks = (λ r. r .path, λ p. record { path = p; within-reach = omega (arith, planned-range table closed sound node p) })
 
 -- number 11 has ended: no call returns it
-pub never-eleven : (table : List ℕ) (q : Request) (size : ℕ) → number table q size ≡ 11 → ⊥
-never-eleven table q size e = unknown (inr (omega arith)) (number-known table q size)
+pub never-eleven : (table closed : List ℕ) (q : Request) (size : ℕ) → number table closed q size ≡ 11 → ⊥
+never-eleven table closed q size e = unknown (inr (omega arith)) (number-known table closed q size)
 
 -- ==== Request T-02. "Split it: 20 node, 21 equal ends, 22 length, 23 spare bytes, returned as that number plus 256 times the arc number. The lowest faulty arc
 -- ==== is named; within it, 20 to 23 in order; 9 is no longer given; the place in the order stays."
 
 -- once the checks before have passed, the number is n + 256 i exactly where arc i has the fault of number n as its first and every arc below i is sound
-pub arc-named : (table : List ℕ) (q : Request) (size : ℕ) → ((t i : ℕ) → t < 9 → Applies table q size t i → ⊥)
-    → (n i : ℕ) → 20 ≤ n → n ≤ 22 → (number table q size ≡ n + 256 * i) ↔ LowestFault (arcsOf table) i n
+pub arc-named : (table closed : List ℕ) (q : Request) (size : ℕ) → ((t i : ℕ) → t < 9 → Applies table closed q size t i → ⊥)
+    → (n i : ℕ) → 20 ≤ n → n ≤ 22 → (number table closed q size ≡ n + 256 * i) ↔ LowestFault (arcsOf table) i n
 arc-named = CallLaws.arc-named
 
--- so whatever number past 10 is given can be taken apart: divided by 256 it says the arc, and what remains says its first fault
-pub arc-apart : (table : List ℕ) (q : Request) (size : ℕ) → 10 < number table q size → LowestFault (arcsOf table) (number table q size / 256) (number table q size % 256)
+-- so whatever number past 16 is given can be taken apart: divided by 256 it says the arc, and what remains says its first fault
+pub arc-apart : (table closed : List ℕ) (q : Request) (size : ℕ) → 16 < number table closed q size → LowestFault (arcsOf table) (number table closed q size / 256) (number table closed q size % 256)
 arc-apart = CallLaws.arc-apart
 
 -- an arc's first fault is, of those that it has, that of the smallest number
@@ -241,8 +248,8 @@ pub sound-exactly : (a : Arc) → SoundArc a ↔ ((f : Fault) → HasFault a f �
 sound-exactly a = (λ s f h. FaultLaws.sound-none s h, FaultLaws.none-sound a)
 
 -- number 9 has ended: no call returns it
-pub never-nine : (table : List ℕ) (q : Request) (size : ℕ) → number table q size ≡ 9 → ⊥
-never-nine table q size e = unknown (inl e) (number-known table q size)
+pub never-nine : (table closed : List ℕ) (q : Request) (size : ℕ) → number table closed q size ≡ 9 → ⊥
+never-nine table closed q size e = unknown (inl e) (number-known table closed q size)
 
 -- ==== Request T-01. "A mender: up to 4,096 bytes in, a clean table out, and, by rising old number, one 16-byte record for each arc changed or lost. A clean table passes unchanged
 -- ==== with an empty list, and mending twice gives the same table as once. Arc numbers shift, so the list must let a reader get every old number back."
@@ -252,7 +259,7 @@ module _ (input : List ℕ) where
   pub mended-clean : Clean (mendedTable input)
   mended-clean = MendLaws.table-clean input
 
-  pub mended-planned : (q : Request) (size : ℕ) → let n = answer (mendedTable input) q size .number in (n ≡ 2 → ⊥) × (n ≡ 3 → ⊥) × (n ≤ 10)
+  pub mended-planned : (closed : List ℕ) (q : Request) (size : ℕ) → let n = answerAround (mendedTable input) closed q size .number in (n ≡ 2 → ⊥) × (n ≡ 3 → ⊥) × (n ≤ 16)
   mended-planned = MendCallLaws.clean-planned mended-clean
 
   -- a clean table comes out unchanged with an empty list, and only a clean one does; the list alone tells it, too
@@ -294,38 +301,38 @@ mended-twice input = unchanged-exactly (mendedTable input) .0 (mended-clean inpu
 -- ==== Request T-03. "The spare bytes become a span number, with zero for not known. The shared count is common risks plus distinct nonzero spans that both routes cross, and the
 -- ==== floor adds the spans that every route crosses. Tables with zero there answer as before. 23 is no longer given."
 
--- spans are known by their first arcs: two arcs of a call have one span exactly where their numbers are the same
+-- spans are known by their first arcs: two arcs of a table have one span exactly where their numbers are the same
 pub one-span : (table : List ℕ) (j k : ℕ) → j < length (arcsOf table) → k < length (arcsOf table)
-    → (arcAt (plannedArcs table) j .span ≡ arcAt (plannedArcs table) k .span) ↔ (arcAt (arcsOf table) j .span ≡ arcAt (arcsOf table) k .span)
+    → (arcAt (markedArcs table) j .span ≡ arcAt (markedArcs table) k .span) ↔ (arcAt (arcsOf table) j .span ≡ arcAt (arcsOf table) k .span)
 one-span table j k hj hk =
-    let at : (i : ℕ) → arcAt (plannedArcs table) i .span ≡ mark (arcsOf table) (arcAt (arcsOf table) i .span) = λ i. ap (λ (a : Arc). a .span) (SpanLaws.marked-at (arcsOf table) i) in
+    let at : (i : ℕ) → arcAt (markedArcs table) i .span ≡ mark (arcsOf table) (arcAt (arcsOf table) i .span) = λ i. ap (λ (a : Arc). a .span) (SpanLaws.marked-at (arcsOf table) i) in
     let same = SpanLaws.mark-same (arcsOf table) j k hj hk in
     (λ e. same .0 (sym (at j) ∙ e ∙ at k), λ e. at j ∙ same .1 e ∙ sym (at k))
 
 -- number 0 is no span, and every other is one
-pub known-span : (table : List ℕ) (k : ℕ) → (arcAt (plannedArcs table) k .span ≡ 0) ↔ (arcAt (arcsOf table) k .span ≡ 0)
+pub known-span : (table : List ℕ) (k : ℕ) → (arcAt (markedArcs table) k .span ≡ 0) ↔ (arcAt (arcsOf table) k .span ≡ 0)
 known-span table k =
     let at = ap (λ (a : Arc). a .span) (SpanLaws.marked-at (arcsOf table) k) in
     (λ e. SpanLaws.mark-zero (arcsOf table) (arcAt (arcsOf table) k .span) (sym at ∙ e), λ e. at ∙ ap (mark (arcsOf table)) e ∙ SpanLaws.mark-unknown (arcsOf table))
 
 -- nothing else of an arc changes
-pub same-but-span : (table : List ℕ) (k : ℕ) → withSpan (arcAt (plannedArcs table) k) 0 ≡ withSpan (arcAt (arcsOf table) k) 0
+pub same-but-span : (table : List ℕ) (k : ℕ) → withSpan (arcAt (markedArcs table) k) 0 ≡ withSpan (arcAt (arcsOf table) k) 0
 same-but-span table k = ap (λ (a : Arc). withSpan a 0) (SpanLaws.marked-at (arcsOf table) k)
 
 -- a list of arcs crosses no more spans than it has arcs; of those that two cross, at most 31 are shared, and of all at most 95, which fit their bytes
 pub spans-most : (arcs : List Arc) (ks : List ℕ) → spansIn (exposureOf arcs ks) ≤ length ks
 spans-most = SpanLaws.spans-most
 
-pub reply-most : (table : List ℕ) (q : Request) (size : ℕ) → number table q size < 2 → (sharedIn (reply table q size) ≤ mostShared) × (sharedSpansIn (reply table q size) ≤ mostArcs)
-reply-most table q size h = Said.said-most (low-number table q size h)
+pub reply-most : (table closed : List ℕ) (q : Request) (size : ℕ) → number table closed q size < 2 → (sharedIn (reply table closed q size) ≤ mostShared) × (sharedSpansIn (reply table closed q size) ≤ mostArcs)
+reply-most table closed q size h = Said.said-most (low-number table closed q size h)
 
 -- a table with zero there answers as it does with spans left out of the definition; and then two ways share what risks they share, and no more
-pub as-before : (table : List ℕ) (q : Request) (size : ℕ) → ((k : ℕ) → k < length (arcsOf table) → arcAt (arcsOf table) k .span ≡ 0) → answer table q size ≡ answerByRisks table q size
-unfolding answer answerUnless
-as-before table q size none = go (refusal table q size)
+pub as-before : (table closed : List ℕ) (q : Request) (size : ℕ) → ((k : ℕ) → k < length (arcsOf table) → arcAt (arcsOf table) k .span ≡ 0) → answerAround table closed q size ≡ answerByRisks table closed q size
+unfolding answerAround answerUnless
+as-before table closed q size none = go (refusal table closed q size)
   where
-    go : (n : ℕ) → answerUnless n table q ≡ byRisksUnless n table q
-    go zero = ap (λ (arcs : List Arc). planned (ranking (meshOver arcs q)) (q .allowance)) (SpanLaws.spanless-same (arcsOf table) none)
+    go : (n : ℕ) → answerUnless n table closed q ≡ plannedUnless n (shutIn (closedIn closed) (spanless (arcsOf table))) q
+    go zero = ap (λ (arcs : List Arc). planned (ranking (meshOver (shutIn (closedIn closed) arcs) q)) (q .allowance)) (SpanLaws.spanless-same (arcsOf table) none)
     go (suc n) = refl
 
 pub by-risks-alone : (arcs : List Arc) (u v : List ℕ) → let p = pairMadeOf (spanless arcs) u v in sharedCount p ≡ length (inBoth riskWidth (p .main .exposure .risks) (p .standby .exposure .risks))
@@ -335,8 +342,67 @@ by-risks-alone arcs u v =
     omega (arith, PairLaws.shared-size p, spans-few (exposureOf (spanless arcs) u) (exposureOf (spanless arcs) v), SpanLaws.spanless-none arcs u)
 
 -- number 23 has ended: no call returns it, of whichever arc
-pub never-twenty-three : (table : List ℕ) (q : Request) (size i : ℕ) → number table q size ≡ 23 + 256 * i → ⊥
+pub never-twenty-three : (table closed : List ℕ) (q : Request) (size i : ℕ) → number table closed q size ≡ 23 + 256 * i → ⊥
 never-twenty-three = CallLaws.never-spare
+
+-- ==== Request T-06. "A call may bring a closed set: 16 bytes, one bit per arc number, lowest bit first. A closed arc lies on no route and gives no distance, so the shortest lengths now hold over
+-- ==== open arcs free of the given risks. Numbers stay. Closed arcs are still checked for faults. An all-zero set answers as before, and demands 2 and 3 speak of open arcs.
+-- ==== Refusals: 16 if the set isn't 16 bytes or marks an arc past the table, directly after the arc faults."
+
+-- one bit per arc number, lowest bit first: arc k is open exactly where bit k % 8 of byte k / 8 is 0
+pub open-by-bit : (closed : List ℕ) → Bytes closed → (k : ℕ) → k < 8 * closedSize → isOpen (closedIn closed) k ≡ eqb (bit (getD closed (k / 8) 0) (k % 8)) 0
+unfolding closedIn
+open-by-bit closed bytes k h = ap (λ (b : ℕ). eqb b 0) (ByteLaws.number-bit closed bytes 0 closedSize k h ∙ ap (λ (i : ℕ). bit (getD closed i 0) (k % 8)) (zero-add (k / 8)))
+
+-- numbers stay, and so does all of an arc but its tail, which of a closed one is no node
+pub open-arc : (table closed : List ℕ) (k : ℕ) → k < length (arcsOf table) → isOpen (closedIn closed) k ≡ true → arcAt (plannedArcs table closed) k ≡ arcAt (markedArcs table) k
+open-arc table closed k h = ClosedLaws.open-at (closedIn closed) (markedArcs table) k (omega (arith, SpanLaws.marked-length (arcsOf table)))
+
+pub closed-arc : (table closed : List ℕ) (k : ℕ) → k < length (arcsOf table) → isOpen (closedIn closed) k ≡ false → arcAt (plannedArcs table closed) k ≡ shut (arcAt (markedArcs table) k)
+closed-arc table closed k h = ClosedLaws.closed-at (closedIn closed) (markedArcs table) k (omega (arith, SpanLaws.marked-length (arcsOf table)))
+
+-- demands 2 and 3 speak of open arcs: the ways and the routes of a call are those of all arcs that go over open ones alone
+module _ (table closed : List ℕ) (q : Request) (sound : allSound (arcsOf table) ≡ true) (node : q .source ≤ lastNode) where
+  pub ways-open : (ks : List ℕ) → WayOf table closed q ks ↔ (IsWay (meshOver (markedArcs table) q) ks × AllOpen closed ks)
+  ways-open = AroundLaws.ways-open table closed q sound node
+
+  pub routes-open : (ks : List ℕ) → RouteOf table closed q ks ↔ (IsRoute (meshOver (markedArcs table) q) ks × AllOpen closed ks)
+  routes-open = AroundLaws.routes-open table closed q sound node
+
+-- a closed arc gives no distance: nor do the ways free of something go over one
+pub distances-open : (table closed : List ℕ) → allSound (arcsOf table) ≡ true → (banned : Exposure) (terminal v : ℕ) → v ≤ lastNode → (ks : List ℕ)
+    → FreeWay (plannedArcs table closed) banned terminal v ks ↔ (FreeWay (markedArcs table) banned terminal v ks × AllOpen closed ks)
+distances-open = AroundLaws.free-open
+
+-- no arc of a reply is closed
+pub reply-open : (table closed : List ℕ) (q : Request) (size : ℕ) → number table closed q size < 2
+    → AllOpen closed (mainIn (reply table closed q size)) × AllOpen closed (standbyIn (reply table closed q size))
+reply-open table closed q size h =
+    let c = low-number table closed q size h .passed .checked in
+    let r = reply-routes table closed q size h in
+    (routes-open table closed q (c .sound) (c .source-node) _ .0 (r .0) .1, routes-open table closed q (c .sound) (c .source-node) _ .0 (r .1) .1)
+
+-- 16 exactly where, no check before having told a number, the set is not 16 bytes or has a bit at or past the number of arcs
+pub sixteen-exactly : (table closed : List ℕ) (q : Request) (size : ℕ) → ((t i : ℕ) → t < 10 → Applies table closed q size t i → ⊥)
+    → (number table closed q size ≡ 16) ↔ ((length closed ≡ closedSize → ⊥) ⊎ ((k : ℕ) × (length (arcsOf table) ≤ k) × (isOpen (closedIn closed) k ≡ false)))
+sixteen-exactly = CallLaws.set-exactly
+
+-- an all-zero set answers as the entry that takes none
+pub none-closed : (table closed : List ℕ) (q : Request) (size : ℕ) → length closed ≡ closedSize → ((k : ℕ) → k < closedSize → getD closed k 0 ≡ 0) → answerAround table closed q size ≡ answer table q size
+none-closed table closed q size whole zeros =
+    ap (λ (l : List ℕ). answerAround table l q size) (ext-getD 0 closed noneClosed whole (λ k h. zeros k (omega arith) ∙ sym (getD-replicate closedSize k 0 0 (omega arith))))
+
+-- and that one answers as before there were closed sets: without their check, over all arcs
+pub as-over-all : (table : List ℕ) (q : Request) (size : ℕ) → answer table q size ≡ answerOverAll table q size
+as-over-all = AroundLaws.over-all
+
+pub never-sixteen : (table : List ℕ) (q : Request) (size : ℕ) → answer table q size .number ≡ 16 → ⊥
+never-sixteen = AroundLaws.never-sixteen
+
+-- closing arcs that lie on no route changes nothing: the same number and the same bytes
+pub closing-aside : (table closed more : List ℕ) (q : Request) (size : ℕ) → ClosedSet table closed → ClosedSet table more → ClosesAside table closed more q
+    → answerAround table more q size ≡ answerAround table closed q size
+closing-aside table closed more q size s t c = AroundLaws.aside-same s t c size
 
 -- ==== Of any pair, and of any length
 

@@ -1,20 +1,21 @@
 -- Calls: the checks as facts, the three ways a call can end, and the fields of a reply read back from its bytes. Assumes nothing.
 use mathlib.Core.Path.{_≡_, refl, sym, ap, _∙_}
-use mathlib.Core.Bool.{Bool, true, false, _||_, not}
+use mathlib.Core.Bool.{Bool, true, false, true≢false, _||_, not}
 use mathlib.Core.List.{List, [], _∷_}
 use Prim.Native.Nat.{ℕ, zero, suc, _-_, _/_, _%_, _^_, _≤_, _<_}
 use native.Mathlib.Omega.{arith}
 use lib.Dec.{eqb, ltb}
 use lib.ListN.{length, take, replicate, length-append, length-replicate}
 use lib.Seq.{take-append-seam, take-append-le, drop-at}
-use borrow.Author.Tests.{ltb-false, le-ltb, eqb-true, eqb-false, eq-eqb, ne-eqb, not-false}
+use borrow.Author.Tests.{ltb-true, ltb-false, lt-ltb, le-ltb, eqb-true, eqb-false, eq-eqb, ne-eqb, not-false}
 use Rattle.laws.specs.Choosing.{if_then_else_}
 use Rattle.laws.proofs.BoolLaws.{neither}
 use Rattle.problem.specs.declared.Request.{Request}
-use Rattle.problem.specs.Table.{lastNode, mostArcs, mostReach, mostAllowance, mostTableBytes, replySize, bytesOf, arcsOf, allSound}
+use Rattle.problem.specs.Table.{lastNode, mostArcs, mostReach, mostAllowance, mostTableBytes, replySize, bytesOf, arcsOf, arcsNumber, allSound}
+use Rattle.problem.specs.Closed.{closedSize, closedIn}
 use Rattle.problem.specs.Routes.{Route}
 use Rattle.problem.specs.Pairs.{Step, Pair, sharedRisks, sharedCount, sharedSpans, floor, every, best, ranked, verdict}
-use Rattle.problem.specs.Reply.{Answer, refuse, placesOf, replyOf, verdictIn, sharedIn, floorIn, sharedSpansIn, rankedIn, mainMetresIn, standbyMetresIn, sharedRisksIn, mainIn, standbyIn, firstNumber, sizeChecks, requestChecks, arcChecks, refusal, Passed, planned, answerUnless, answer}
+use Rattle.problem.specs.Reply.{Answer, refuse, placesOf, replyOf, verdictIn, sharedIn, floorIn, sharedSpansIn, rankedIn, mainMetresIn, standbyMetresIn, sharedRisksIn, mainIn, standbyIn, firstNumber, sizeChecks, requestChecks, arcChecks, closedChecks, refusal, ClosedSet, Passed, planned, answerUnless, answerAround}
 use Rattle.problem.specs.Calls.{routesOf, Told}
 use Rattle.problem.proofs.ByteLaws.{field-at}
 use Rattle.problem.proofs.TableLaws.{number-sound}
@@ -27,18 +28,23 @@ not-first : (b : Bool) (n r : ℕ) → (if b then suc n else r) ≡ 0 → (b ≡
 not-first true n r e = absurd (omega arith)
 not-first false n r e = (refl, e)
 
--- of the arcs, the last check: where no number is told, all are sound
-arcs-passed : (table : List ℕ) → firstNumber (arcChecks table) ≡ 0 → allSound (arcsOf table) ≡ true
-unfolding firstNumber arcChecks
-arcs-passed table e = go (allSound (arcsOf table)) refl
+-- of the arcs: where no number is told, all are sound
+arcs-passed : (table : List ℕ) (next n : ℕ) → (if not (allSound (arcsOf table)) then arcsNumber (arcsOf table) else next) ≡ n → n ≡ 0 → (allSound (arcsOf table) ≡ true) × (next ≡ 0)
+arcs-passed table next n e z = go (allSound (arcsOf table)) refl
   where
-    go : (b : Bool) → allSound (arcsOf table) ≡ b → allSound (arcsOf table) ≡ true
-    go true f = f
-    go false f = number-sound (arcsOf table) (rw f at e)
+    go : (b : Bool) → allSound (arcsOf table) ≡ b → (allSound (arcsOf table) ≡ true) × (next ≡ 0)
+    go true f = let given : next ≡ n = rw f at e in (f, given ∙ z)
+    go false f = let none : arcsNumber (arcsOf table) ≡ n = rw f at e in absurd (true≢false (sym (number-sound (arcsOf table) (none ∙ z)) ∙ f))
 
-pub refusal-passed : (table : List ℕ) (q : Request) (size : ℕ) → refusal table q size ≡ 0 → Passed table q size
-unfolding refusal sizeChecks requestChecks arcChecks firstNumber
-refusal-passed table q size e =
+-- of the closed set, the last check
+set-passed : (table closed : List ℕ) → (not (eqb (length closed) closedSize) || not (ltb (closedIn closed) (2 ^ length (arcsOf table)))) ≡ false → ClosedSet table closed
+set-passed table closed e =
+    let both = neither (not (eqb (length closed) closedSize)) (not (ltb (closedIn closed) (2 ^ length (arcsOf table)))) e in
+    record { whole = eqb-true (length closed) closedSize (not-false _ (both .0)); inside = ltb-true (closedIn closed) (2 ^ length (arcsOf table)) (not-false _ (both .1)) }
+
+pub refusal-passed : (table closed : List ℕ) (q : Request) (size : ℕ) → refusal table closed q size ≡ 0 → Passed table closed q size
+unfolding refusal sizeChecks requestChecks arcChecks closedChecks firstNumber
+refusal-passed table closed q size e =
     let a = not-first (ltb mostTableBytes (length table)) 1 _ e in
     let b = not-first (not (eqb (length table % 16) 0)) 2 _ (a .1) in
     let c = not-first (ltb size replySize) 3 _ (b .1) in
@@ -46,6 +52,8 @@ refusal-passed table q size e =
     let f = not-first (eqb (q .source) (q .terminal)) 5 _ (d .1) in
     let g = not-first (ltb mostReach (q .reach)) 6 _ (f .1) in
     let h = not-first (eqb (q .allowance) 0 || ltb mostAllowance (q .allowance)) 7 _ (g .1) in
+    let i = arcs-passed table _ 0 (h .1) refl in
+    let j = not-first (not (eqb (length closed) closedSize) || not (ltb (closedIn closed) (2 ^ length (arcsOf table)))) 15 _ (i .1) in
     let nodes = neither (ltb lastNode (q .source)) (ltb lastNode (q .terminal)) (d .0) in
     let allowed = neither (eqb (q .allowance) 0) (ltb mostAllowance (q .allowance)) (h .0) in
     record {
@@ -58,14 +66,15 @@ refusal-passed table q size e =
         reach-range = ltb-false mostReach (q .reach) (g .0);
         some-allowance = omega (arith, eqb-false (q .allowance) 0 (allowed .0));
         allowance-range = ltb-false mostAllowance (q .allowance) (allowed .1);
-        sound = arcs-passed table (h .1);
+        sound = i .0;
       };
+      closed-set = set-passed table closed (j .0);
       room = ltb-false size replySize (c .0);
     }
 
-pub passed-refusal : {table : List ℕ} {q : Request} {size : ℕ} → Passed table q size → refusal table q size ≡ 0
-unfolding refusal sizeChecks requestChecks arcChecks firstNumber
-passed-refusal {table} {q} {size} p =
+pub passed-refusal : {table closed : List ℕ} {q : Request} {size : ℕ} → Passed table closed q size → refusal table closed q size ≡ 0
+unfolding refusal sizeChecks requestChecks arcChecks closedChecks firstNumber
+passed-refusal {table} {closed} {q} {size} p =
     let c = p .checked in
     rw (
       le-ltb mostTableBytes (length table) (c .few-bytes),
@@ -78,29 +87,31 @@ passed-refusal {table} {q} {size} p =
       ne-eqb (q .allowance) 0 (λ e. omega (arith, c .some-allowance)),
       le-ltb mostAllowance (q .allowance) (c .allowance-range),
       c .sound,
+      eq-eqb (length closed) closedSize (p .closed-set .whole),
+      lt-ltb (closedIn closed) (2 ^ length (arcsOf table)) (p .closed-set .inside),
     )
 
 -- ---- how a call ends
 
 -- the pair of the answer: best(ranked)
-abbrev pub chosen : List ℕ → Request → Pair
-chosen table q = best every (routesOf table q) (ranked every (routesOf table q) (q .allowance))
+abbrev pub chosen : (table closed : List ℕ) → Request → Pair
+chosen table closed q = best every (routesOf table closed q) (ranked every (routesOf table closed q) (q .allowance))
 
 -- the answer where there is a route
-abbrev pub answered : List ℕ → Request → Answer
-answered table q =
+abbrev pub answered : (table closed : List ℕ) → Request → Answer
+answered table closed q =
     record {
-      number = verdict every (routesOf table q) (q .allowance);
-      reply = replyOf (verdict every (routesOf table q) (q .allowance)) (floor (routesOf table q)) (ranked every (routesOf table q) (q .allowance)) (chosen table q);
+      number = verdict every (routesOf table closed q) (q .allowance);
+      reply = replyOf (verdict every (routesOf table closed q) (q .allowance)) (floor (routesOf table closed q)) (ranked every (routesOf table closed q) (q .allowance)) (chosen table closed q);
     }
 
-pub data Outcome (table : List ℕ) (q : Request) (size : ℕ) : Type 0 where
+pub data Outcome (table closed : List ℕ) (q : Request) (size : ℕ) : Type 0 where
   -- by one of the checks before 10
-  by-check : (n : ℕ) → refusal table q size ≡ n → Told table q size n → answer table q size ≡ refuse n → Outcome table q size
+  by-check : (n : ℕ) → refusal table closed q size ≡ n → Told table closed q size n → answerAround table closed q size ≡ refuse n → Outcome table closed q size
   -- with 10
-  no-route : Passed table q size → routesOf table q ≡ [] → answer table q size ≡ refuse 10 → Outcome table q size
+  no-route : Passed table closed q size → routesOf table closed q ≡ [] → answerAround table closed q size ≡ refuse 10 → Outcome table closed q size
   -- with 0 or 1
-  with-pair : Passed table q size → 0 < length (routesOf table q) → answer table q size ≡ answered table q → Outcome table q size
+  with-pair : Passed table closed q size → 0 < length (routesOf table closed q) → answerAround table closed q size ≡ answered table closed q → Outcome table closed q size
 
 pub ranked-step : (routes : List Route) (allowance : ℕ) → 0 < length routes → 0 < allowance → Step routes (ranked every routes allowance)
 unfolding ranked
@@ -118,17 +129,17 @@ unfolding planned
 planned-some [] allowance h = absurd (omega arith)
 planned-some (r ∷ routes) allowance h = refl
 
-pub outcome : (table : List ℕ) (q : Request) (size : ℕ) → Outcome table q size
-unfolding answer answerUnless
-outcome table q size = by-number (refusal table q size) refl
+pub outcome : (table closed : List ℕ) (q : Request) (size : ℕ) → Outcome table closed q size
+unfolding answerAround answerUnless
+outcome table closed q size = by-number (refusal table closed q size) refl
   where
-    by-length : Passed table q size → (n : ℕ) → length (routesOf table q) ≡ n → planned (routesOf table q) (q .allowance) ≡ answer table q size → Outcome table q size
-    by-length p zero e f = let o = planned-none (routesOf table q) (q .allowance) e in no-route p (o .0) (sym f ∙ o .1)
-    by-length p (suc n) e f = let some : 0 < length (routesOf table q) = omega arith in with-pair p some (sym f ∙ planned-some (routesOf table q) (q .allowance) some)
+    by-length : Passed table closed q size → (n : ℕ) → length (routesOf table closed q) ≡ n → planned (routesOf table closed q) (q .allowance) ≡ answerAround table closed q size → Outcome table closed q size
+    by-length p zero e f = let o = planned-none (routesOf table closed q) (q .allowance) e in no-route p (o .0) (sym f ∙ o .1)
+    by-length p (suc n) e f = let some : 0 < length (routesOf table closed q) = omega arith in with-pair p some (sym f ∙ planned-some (routesOf table closed q) (q .allowance) some)
 
-    by-number : (n : ℕ) → refusal table q size ≡ n → Outcome table q size
-    by-number zero e = by-length (refusal-passed table q size e) (length (routesOf table q)) refl (ap (λ (x : ℕ). answerUnless x table q) (sym e))
-    by-number (suc n) e = by-check (suc n) e (refusal-told table q size n e) (ap (λ (x : ℕ). answerUnless x table q) e)
+    by-number : (n : ℕ) → refusal table closed q size ≡ n → Outcome table closed q size
+    by-number zero e = by-length (refusal-passed table closed q size e) (length (routesOf table closed q)) refl (ap (λ (x : ℕ). answerUnless x table closed q) (sym e))
+    by-number (suc n) e = by-check (suc n) e (refusal-told table closed q size n e) (ap (λ (x : ℕ). answerUnless x table closed q) e)
 
 -- ---- the fields of a reply, read back
 

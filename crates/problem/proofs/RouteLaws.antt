@@ -51,6 +51,20 @@ module _ (rest : ℕ → ℕ → List (List ℕ)) (met at : ℕ) where
     pub open-arc : opens met at (arcAt arcs i) ≡ true
     pub goes-on : List·Memᴰ more (rest (with met (arcAt arcs i .head)) (arcAt arcs i .head))
 
+  -- an arc that opens is taken, and any other passed over, so each that has another tail
+  pub sprout-over : (k : ℕ) (a : Arc) (arcs : List Arc) → opens met at a ≡ true
+      → sprout rest met at k (a ∷ arcs) ≡ map (λ ks. k ∷ ks) (rest (with met (a .head)) (a .head)) ++ sprout rest met at (suc k) arcs
+  unfolding sprout
+  sprout-over k a arcs e = rw (e, sprout)
+
+  pub sprout-past : (k : ℕ) (a : Arc) (arcs : List Arc) → opens met at a ≡ false → sprout rest met at k (a ∷ arcs) ≡ sprout rest met at (suc k) arcs
+  unfolding sprout
+  sprout-past k a arcs e = rw (e, sprout)
+
+  pub sprout-other : (k : ℕ) (a : Arc) (arcs : List Arc) → (a .tail ≡ at → ⊥) → sprout rest met at k (a ∷ arcs) ≡ sprout rest met at (suc k) arcs
+  unfolding opens
+  sprout-other k a arcs other = sprout-past k a arcs (rw (ne-eqb (a .tail) at other))
+
   later : {k : ℕ} {a : Arc} {arcs : List Arc} {ks : List ℕ} → Sprouted (suc k) arcs ks → Sprouted k (a ∷ arcs) ks
   later {k} s =
       record { i = suc (s .i); more = s .more; inside = suc-le-suc (s .inside); is = s .is ∙ ap (λ (n : ℕ). n ∷ s .more) (omega arith); open-arc = s .open-arc; goes-on = s .goes-on }

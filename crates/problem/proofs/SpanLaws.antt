@@ -13,7 +13,7 @@ use borrow.Author.Tests.{eqb-true, eqb-false, eq-eqb, ne-eqb}
 use Rattle.laws.specs.Choosing.{if_then_else_}
 use Rattle.problem.specs.declared.Arc.{Arc}
 use Rattle.problem.specs.Table.{riskWidth, Bytes, arcsOf, arcNumber, allSound}
-use Rattle.problem.specs.Spans.{firstWith, mark, withSpan, marked, spanless, plannedArcs}
+use Rattle.problem.specs.Spans.{firstWith, mark, withSpan, marked, spanless, markedArcs}
 use Rattle.problem.specs.Exposures.{ofArc, spansIn}
 use Rattle.problem.specs.Routes.{arcAt, exposureOf}
 use Rattle.problem.proofs.ExposureLaws.{spans-of-arc, spans-unknown, spans-joined, spans-nothing}
@@ -168,10 +168,7 @@ unfolding exposureOf
 spans-most arcs [] = omega (arith, spans-nothing)
 spans-most arcs (k ∷ ks) = omega (arith, spans-joined (ofArc (arcAt arcs k)) (exposureOf arcs ks), spans-of-arc (arcAt arcs k), spans-most arcs ks)
 
--- ---- the arcs of a call
+-- ---- the arcs of a table
 
-pub planned-risks-below : (table : List ℕ) → Bytes table → (ks : List ℕ) → exposureOf (plannedArcs table) ks .risks < 2 ^ riskWidth
-planned-risks-below table bytes = risks-below (plannedArcs table) (λ k. omega (arith, ap (λ (a : Arc). a .risks) (marked-at (arcsOf table) k), arc-risks-below table bytes k))
-
-pub planned-sound : (table : List ℕ) → allSound (arcsOf table) ≡ true → allSound (plannedArcs table) ≡ true
-planned-sound table = marked-sound (arcsOf table)
+pub marked-risks-below : (table : List ℕ) → Bytes table → (ks : List ℕ) → exposureOf (markedArcs table) ks .risks < 2 ^ riskWidth
+marked-risks-below table bytes = risks-below (markedArcs table) (λ k. omega (arith, ap (λ (a : Arc). a .risks) (marked-at (arcsOf table) k), arc-risks-below table bytes k))

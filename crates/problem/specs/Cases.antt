@@ -11,8 +11,9 @@ use Rattle.problem.specs.declared.Fault.the-variants.{Sound, Node, Equal
 use Rattle.problem.specs.Opened.{opened}
 use Rattle.problem.specs.Table.{nodes, mostArcs, riskWidth, mostShared, hazards, mostArcMetres, mostReach, mostInTable, Bytes, bytesOf, arcOf, arcsOf, faultOf}
 use Rattle.problem.specs.Spans.{marked}
+use Rattle.problem.specs.Closed.{noneClosed, plannedArcs}
 use Rattle.problem.specs.Routes.{mesh, Way, paths, FreeWay, freeLengths, shortest}
-use Rattle.problem.specs.Reply.{request, Answer, answer, refuse, sharedIn, floorIn, rankedIn, totalIn, sharedRisksIn, mainIn, standbyIn}
+use Rattle.problem.specs.Reply.{request, Answer, answerAround, answer, refuse, sharedIn, floorIn, rankedIn, totalIn, sharedRisksIn, mainIn, standbyIn}
 use Rattle.problem.specs.Calls.{WayOf, allowing, LowestFault}
 use Rattle.problem.specs.Mending.{mendedTable, changeBytes, mendedList, changeIn, changesIn, oldNumber, mending}
 use Rattle.problem.specs.Printed.{kilometres, text, digits, output}
@@ -173,7 +174,7 @@ unfolding opened
 looped = Way.over {k = 0} (omega arith) refl (Way.over {k = 3} (omega arith) refl (Way.over {k = 4} (omega arith) refl (Way.over {k = 3} (omega arith) refl (Way.over {k = 4} (omega arith) refl (Way.over {k = 5} (omega arith) refl (Way.there refl))))))
 
 -- such a way may be exactly as long as the reach
-pub round-twice : WayOf meshLoop (request 0 3 4000 1) (0 ∷ 3 ∷ 4 ∷ 3 ∷ 4 ∷ 5 ∷ [])
+pub round-twice : WayOf meshLoop noneClosed (request 0 3 4000 1) (0 ∷ 3 ∷ 4 ∷ 3 ∷ 4 ∷ 5 ∷ [])
 unfolding opened
 round-twice = record { way = looped; within-reach = omega arith }
 
@@ -306,6 +307,69 @@ two-in-one-span = refl
 pub marks : map (λ a. a .span) (marked (arcsOf (spanArc 0 1 9 5 0 ++ arc 0 1 5 0 ++ spanArc 0 1 7 5 0 ++ spanArc 1 0 9 5 0 ++ spanArc 2 3 65535 5 0 ++ spanArc 2 3 7 5 0))) ≡ 1 ∷ 0 ∷ 3 ∷ 1 ∷ 5 ∷ 3 ∷ []
 unfolding opened
 marks = refl
+
+-- ---- T-06, a closed set
+
+-- a row with the bytes of a closed set; `closing` gives 16 that begin with these
+pub record AroundRow : Type 0 where
+  pub table : List ℕ
+  pub closed : List ℕ
+  pub request : Request
+  pub expected : Answer
+
+abbrev pub closing : List ℕ → List ℕ
+closing bytes = bytes ++ replicate (16 - length bytes) 0
+
+abbrev pub around : List ℕ → (bytes : List ℕ) → (terminal : ℕ) → Answer → AroundRow
+around table bytes terminal a = record { table = table; closed = closing bytes; request = request 0 terminal 10000 1000; expected = a }
+
+-- n cables from 0 to 1, arc k of 1,000 + k metres
+abbrev pub cables : ℕ → ℕ → List ℕ
+cables k zero = []
+cables k (suc n) = arc 0 1 (1000 + k) (2 ^ k) ++ cables (suc k) n
+
+-- A with nothing closed. With arc 4, [0,1] and [2,3] are left, 5,000 m each, and the first of them settles; with arc 1, [0,4,3] and [2,3], both over arc 3; with arc 3, [0,1] alone;
+-- with arcs 0 and 2, or all, nothing. Of nine cables: 0 and 8 closed, the lowest bits of two bytes; all but 7, the highest bit of one. The last of 128 arcs, and all but that.
+-- The first arc of a span closed, and the two others still in one span
+abbrev pub closedRows : List AroundRow
+closedRows =
+    around meshA [] 3 answerA1
+    ∷ around meshA (16 ∷ []) 3 (written 0 0 0 1 5000 5000 0 (0 ∷ 1 ∷ []) (2 ∷ 3 ∷ []))
+    ∷ around meshA (2 ∷ []) 3 (written 0 1 1 2 3000 5000 8 (0 ∷ 4 ∷ 3 ∷ []) (2 ∷ 3 ∷ []))
+    ∷ around meshA (8 ∷ []) 3 (written 0 2 2 1 5000 5000 3 (0 ∷ 1 ∷ []) (0 ∷ 1 ∷ []))
+    ∷ around meshA (5 ∷ []) 3 (refuse 10)
+    ∷ around meshA (31 ∷ []) 3 (refuse 10)
+    ∷ around (cables 0 9) (1 ∷ 1 ∷ []) 1 (written 0 0 0 2 1001 1002 0 (1 ∷ []) (2 ∷ []))
+    ∷ around (cables 0 9) (127 ∷ 1 ∷ []) 1 (written 0 1 1 1 1007 1007 128 (7 ∷ []) (7 ∷ []))
+    ∷ around (aside 127 ++ arc 0 1 1000 1) (replicate 15 0 ++ 128 ∷ []) 1 (refuse 10)
+    ∷ around (aside 127 ++ arc 0 1 1000 1) (replicate 15 255 ++ 127 ∷ []) 1 (written 0 1 1 1 1000 1000 1 (127 ∷ []) (127 ∷ []))
+    ∷ around (spanArc 0 1 7 1000 0 ++ spanArc 0 1 7 2000 0 ++ spanArc 0 1 7 3000 0) (1 ∷ []) 1 (writtenWith 1 0 1 1 1 2000 2000 0 (1 ∷ []) (1 ∷ []))
+    ∷ []
+
+pub planned-around : map (λ r. answerAround (r .table) (r .closed) (r .request) 96) closedRows ≡ map (λ r. r .expected) closedRows
+unfolding opened
+planned-around = refl
+
+-- a set of 0, 15 or 17 bytes; one with a bit just past the table, with the last bit, with any bit where there is no arc. 16 is looked for behind every fault of the call and of an arc, closed or
+-- not, and before 10
+pub closed-checks
+    : map (λ (closed : List ℕ). answerAround meshA closed (request 0 3 10000 1000) 96 .number) ([] ∷ replicate 15 0 ∷ replicate 17 0 ∷ closing (32 ∷ []) ∷ (replicate 15 0 ++ 128 ∷ []) ∷ closing [] ∷ [])
+    ++ map (λ (closed : List ℕ). answerAround [] closed (request 0 3 10000 1000) 96 .number) ([] ∷ closing (1 ∷ []) ∷ closing [] ∷ [])
+    ++ map (λ (closed : List ℕ). answerAround (meshA ++ arc 7 7 0 0) closed (request 0 3 10000 1000) 96 .number) ([] ∷ closing (32 ∷ []) ∷ closing (64 ∷ []) ∷ [])
+    ++ answerAround meshA [] (request 0 3 62000001 1000) 96 .number
+    ∷ answerAround meshA [] (request 0 3 10000 0) 96 .number
+    ∷ answerAround meshA [] (request 0 3 10000 1000) 95 .number
+    ∷ []
+    ≡ 16 ∷ 16 ∷ 16 ∷ 16 ∷ 16 ∷ 0 ∷ 16 ∷ 16 ∷ 10 ∷ 1301 ∷ 1301 ∷ 1301 ∷ 7 ∷ 8 ∷ 4 ∷ []
+unfolding opened
+closed-checks = refl
+
+-- the lengths of mesh A from its source, with arcs 4, 1 and 0 closed: 5,000, 3,000 and 5,000 m; with 1 and 3 closed, and with all, it cannot be reached
+pub distances-around
+    : map (λ byte. freeLengths (plannedArcs meshA (closing (byte ∷ []))) (record { risks = 0; low = 0; high = 0 }) 3 0) (16 ∷ 2 ∷ 1 ∷ 10 ∷ 31 ∷ [])
+    ≡ (5000 ∷ 5000 ∷ []) ∷ (3000 ∷ 5000 ∷ []) ∷ (5000 ∷ []) ∷ [] ∷ [] ∷ []
+unfolding opened
+distances-around = refl
 
 -- ---- T-01, mending
 

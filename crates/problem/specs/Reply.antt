@@ -1,5 +1,5 @@
 -- 01, The reply record; Numbers returned, and the order of checks. Assumes nothing.
-use Prim.Native.Nat.{ℕ, zero, suc, _+_, _-_, _%_, _≤_, _<_}
+use Prim.Native.Nat.{ℕ, zero, suc, _+_, _-_, _%_, _^_, _≤_, _<_}
 use mathlib.Core.Bool.{Bool, true, _||_, not}
 use mathlib.Core.List.{List, [], _∷_, _++_}
 use mathlib.Core.Path.{_≡_}
@@ -9,19 +9,19 @@ use Rattle.laws.specs.Choosing.{if_then_else_}
 use Rattle.problem.specs.declared.Arc.{Arc}
 use Rattle.problem.specs.declared.Request.{Request}
 use Rattle.problem.specs.Table.{lastNode, mostReach, mostAllowance, mostTableBytes, replySize, numberAt, bytesOf, over, arcsOf, arcsNumber, allSound}
-use Rattle.problem.specs.Spans.{plannedArcs}
+use Rattle.problem.specs.Closed.{closedSize, closedIn, noneClosed, plannedArcs}
 use Rattle.problem.specs.Routes.{Mesh, mesh, Route, ranking}
 use Rattle.problem.specs.Pairs.{Pair, sharedRisks, sharedCount, sharedSpans, floor, every, best, ranked, verdict}
 
 abbrev pub request : (source terminal reach allowance : ℕ) → Request
 request source terminal reach allowance = record { source = source; terminal = terminal; reach = reach; allowance = allowance }
 
--- the mesh of these arcs and a request; and the mesh that a call is planned over, its spans known by their first arcs
+-- the mesh of these arcs and a request; and the mesh that a call is planned over, whose closed arcs are shut
 abbrev pub meshOver : List Arc → Request → Mesh
 meshOver arcs q = mesh arcs (q .source) (q .terminal) (q .reach)
 
-abbrev pub meshOf : List ℕ → Request → Mesh
-meshOf table q = meshOver (plannedArcs table) q
+abbrev pub meshOf : (table closed : List ℕ) → Request → Mesh
+meshOf table closed q = meshOver (plannedArcs table closed) q
 
 -- what a call gives: the number returned, and the bytes written, none with a refusal
 pub record Answer : Type 0 where
@@ -99,7 +99,7 @@ unfoldable pub firstNumber : List Check → ℕ
 firstNumber [] = 0
 firstNumber (c ∷ cs) = if c .test then c .number else firstNumber cs
 
--- the checks before 10, in their order: of the sizes (`size` is the reply buffer's), of the request, of the arcs
+-- the checks before 10, in their order: of the sizes (`size` is the reply buffer's), of the request, of the arcs, open and closed, and of the closed set
 unfoldable pub sizeChecks : List ℕ → ℕ → List Check
 sizeChecks table size =
     check (ltb mostTableBytes (length table)) 2
@@ -118,11 +118,18 @@ requestChecks q =
 unfoldable pub arcChecks : List ℕ → List Check
 arcChecks table = check (not (allSound (arcsOf table))) (arcsNumber (arcsOf table)) ∷ []
 
--- the first of them that applies, or 0
-unfoldable pub refusal : List ℕ → Request → ℕ → ℕ
-refusal table q size = firstNumber (sizeChecks table size ++ requestChecks q ++ arcChecks table)
+unfoldable pub closedChecks : (table closed : List ℕ) → List Check
+closedChecks table closed = check (not (eqb (length closed) closedSize) || not (ltb (closedIn closed) (2 ^ length (arcsOf table)))) 16 ∷ []
 
--- every check before 10 has passed: of table and request, which is what planning may rely on
+-- those of a call that brings no closed set
+abbrev pub plainChecks : List ℕ → Request → ℕ → List Check
+plainChecks table q size = sizeChecks table size ++ requestChecks q ++ arcChecks table
+
+-- the first of all that applies, or 0
+unfoldable pub refusal : (table closed : List ℕ) → Request → ℕ → ℕ
+refusal table closed q size = firstNumber (plainChecks table q size ++ closedChecks table closed)
+
+-- every check before 10 has passed: of table and request, which is what planning may rely on,
 pub record Checked (table : List ℕ) (q : Request) : Type 0 where
   pub few-bytes : length table ≤ mostTableBytes
   pub whole-arcs : length table % 16 ≡ 0
@@ -134,9 +141,15 @@ pub record Checked (table : List ℕ) (q : Request) : Type 0 where
   pub allowance-range : q .allowance ≤ mostAllowance
   pub sound : allSound (arcsOf table) ≡ true
 
+-- of a closed set: it has its 16 bytes, and no bit at or past the number of arcs
+pub record ClosedSet (table closed : List ℕ) : Type 0 where
+  pub whole : length closed ≡ closedSize
+  pub inside : closedIn closed < 2 ^ length (arcsOf table)
+
 -- and of the reply buffer
-pub record Passed (table : List ℕ) (q : Request) (size : ℕ) : Type 0 where
+pub record Passed (table closed : List ℕ) (q : Request) (size : ℕ) : Type 0 where
   pub checked : Checked table q
+  pub closed-set : ClosedSet table closed
   pub room : replySize ≤ size
 
 -- the answer from the ranking, once those checks have passed
@@ -147,10 +160,14 @@ planned (r ∷ more) allowance =
     let p : Pair = best every routes (ranked every routes allowance) in
     record { number = verdict every routes allowance; reply = replyOf (verdict every routes allowance) (floor routes) (ranked every routes allowance) p }
 
-unfoldable pub answerUnless : ℕ → List ℕ → Request → Answer
-answerUnless zero table q = planned (ranking (meshOf table q)) (q .allowance)
-answerUnless (suc n) table q = refuse (suc n)
+unfoldable pub answerUnless : ℕ → (table closed : List ℕ) → Request → Answer
+answerUnless zero table closed q = planned (ranking (meshOf table closed q)) (q .allowance)
+answerUnless (suc n) table closed q = refuse (suc n)
 
--- the answer of the planning entry, for every table, request and size of buffer
-unfoldable pub answer : List ℕ → Request → ℕ → Answer
-answer table q size = answerUnless (refusal table q size) table q
+-- the answer of a planning entry, for every table, closed set, request and size of buffer
+unfoldable pub answerAround : (table closed : List ℕ) → Request → ℕ → Answer
+answerAround table closed q size = answerUnless (refusal table closed q size) table closed q
+
+-- with nothing closed: the answer of the entry that takes no closed set
+abbrev pub answer : List ℕ → Request → ℕ → Answer
+answer table q size = answerAround table noneClosed q size

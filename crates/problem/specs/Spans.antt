@@ -27,6 +27,6 @@ marked arcs = map (λ a. withSpan a (mark arcs (a .span))) arcs
 unfoldable pub spanless : List Arc → List Arc
 spanless arcs = map (λ a. withSpan a 0) arcs
 
--- the arcs that a call is planned over
-abbrev pub plannedArcs : List ℕ → List Arc
-plannedArcs table = marked (arcsOf table)
+-- the arcs of a table so
+abbrev pub markedArcs : List ℕ → List Arc
+markedArcs table = marked (arcsOf table)

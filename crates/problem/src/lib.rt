@@ -28,6 +28,9 @@ pub const MOST_IN_TABLE: usize = MOST_TABLE_BYTES / ARC_BYTES;
 // What an exposure can tell apart: the risks, and a span for each arc of the largest table.
 pub const HAZARDS: u8 = RISK_WIDTH + MOST_IN_TABLE as u8;
 
+// The bytes of a closed set (T-06): a bit for each arc of the largest table.
+pub const CLOSED_SIZE: usize = MOST_IN_TABLE / 8;
+
 // The longest table that is mended (T-01).
 pub const MOST_FIELD_BYTES: usize = 4096;
 

@@ -1,7 +1,7 @@
-// Sets of nodes as the bits of a u64: r is in the set where bit r is 1.
+// Sets as the bits of a u64: r is in the set where bit r is 1.
 ghost use mathlib.Core.Path.{_≡_};
-ghost use Prim.Native.Nat.{_<_};
-ghost use lib.Dec.{eqb};
+ghost use Prim.Native.Nat.{_<_, _^_};
+ghost use lib.Dec.{eqb, ltb};
 ghost use Rattle.laws.specs.Sets.{bit, with};
 
 // Whether r is in the set.
@@ -10,6 +10,14 @@ pub fn has(set: u64, r: u8) -> bool
     ensures { λ o. ⌜ o ≡ eqb (bit set r) 1 ⌝ }
 {
     (set >> r) & 1 == 1
+}
+
+// Whether all that is in the set is below r.
+pub fn below(set: u64, r: u8) -> bool
+    requires { ⌜ r < 64 ⌝ }
+    ensures { λ o. ⌜ o ≡ ltb set (2 ^ r) ⌝ }
+{
+    set < (1 << r)
 }
 
 // The set and r.

@@ -2,22 +2,22 @@
 use mathlib.Core.Path.{_∙_}
 use native.Mathlib.Omega.{arith}
 use borrow.Author.Needs.{needs}
-use Rattle.problem.specs.Reply.{firstNumber, sizeChecks, refusal}
+use Rattle.problem.specs.Reply.{firstNumber, sizeChecks}
 use Rattle.laws.proofs.Picks.{picks}
 use Rattle.checks.proofs.CheckLaws.{refused-request, refused-arcs}
 use Rattle.checks.proofs.refusal.Statement.{statement}
 use Rattle.checks.proofs.refusal.Tie as tie
 
 table-long : tie.Need-returns
-unfolding refusal sizeChecks firstNumber
+unfolding sizeChecks firstNumber
 table-long c = search (picks, arith)
 
 table-ragged : tie.Need-returns-2
-unfolding refusal sizeChecks firstNumber
+unfolding sizeChecks firstNumber
 table-ragged c = search (picks, arith)
 
 reply-short : tie.Need-returns-3
-unfolding refusal sizeChecks firstNumber
+unfolding sizeChecks firstNumber
 reply-short c = search (picks, arith)
 
 of-request : tie.Need-returns-4

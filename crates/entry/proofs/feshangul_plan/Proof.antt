@@ -1,42 +1,31 @@
 -- `entry::feshangul_plan` meets its contract: each end of the code is the same end of the definitions' answer. Assumes nothing.
 use mathlib.Core.Path.{sym, _∙_}
-use lib.ListN.{length}
 use borrow.Author.Needs.{needs}
-use borrow.Author.Tests.{not-true, not-false}
+use lib.ListN.{length}
+use Rattle.problem.specs.Closed.{noneClosed}
 use Rattle.problem.specs.Reply.{request, Passed}
 use Rattle.problem.specs.Calls.{routesOf}
 use Rattle.problem.proofs.ReplyLaws.{refusal-passed}
-use Rattle.planner.specs.Planner.{PairMade}
-use Rattle.entry.proofs.EntryLaws.{refused, no-route, given}
+use Rattle.planner.specs.Planner.{Planned}
+use Rattle.entry.proofs.EntryLaws.{refused, given, fits, plain-refusal, plain-planned}
 use Rattle.entry.proofs.feshangul_plan.Statement.{statement}
 use Rattle.entry.proofs.feshangul_plan.Tie as tie
 
 -- past the checks
 passed : (c : tie.Else1) → let a = c .before .before .before .before .args in
-    Passed (a .table .now) (request (a .source) (a .terminal) (a .reach) (a .allowance)) (length (a .reply .now))
-passed c = refusal-passed _ _ _ (sym (c .before .refusal .ensures) ∙ c .if1 .left)
+    Passed (a .table .now) noneClosed (request (a .source) (a .terminal) (a .reach) (a .allowance)) (length (a .reply .now))
+passed c = refusal-passed _ _ _ _ (sym (plain-refusal _ _ _ (c .before .refusal .ensures)) ∙ c .if1 .left)
 
--- with a pair
-made : (c : tie.Else2) → let planned = c .before .before in let a = planned .before .before .before .before .before .args in
-    PairMade (routesOf (a .table .now) (request (a .source) (a .terminal) (a .reach) (a .allowance))) (a .allowance) (planned .plan-checked .result)
-made c = c .before .before .plan-checked .ensures .some (not-false _ (c .if2 .left))
+-- what is planned
+made : (c : tie.After-plan-checked) → let a = c .before .before .before .before .before .args in
+    Planned (routesOf (a .table .now) noneClosed (request (a .source) (a .terminal) (a .reach) (a .allowance))) (a .allowance) (c .plan-checked .result)
+made c = plain-planned _ _ (c .plan-checked .ensures)
 
 returns : tie.Need-returns
-returns c = refused _ (c .before .refusal .ensures) (c .if1 .taken)
+returns c = refused _ (plain-refusal _ _ _ (c .before .refusal .ensures)) (c .if1 .taken)
 
 returns-2 : tie.Need-returns-2
-returns-2 c = let planned = c .before .before in no-route (passed (planned .before)) (planned .plan-checked .ensures .none (not-true _ (c .if2 .taken)))
-
-write-requires : tie.Need-write-requires
-write-requires c κs =
-    let found = c .before .before in
-    (passed (found .before .before .before) .room, made found .chosen .main-fit, made found .chosen .standby-fit)
-
-returns-3 : tie.Need-returns-3
-returns-3 c =
-    let written = c .before .before .before in
-    let found = written .before .before .before in
-    given (passed (found .before .before .before)) (made found) (written .write .ensures)
+returns-2 c = let gave = c .before .before in let planned = gave .before .before in given (passed (planned .before)) (made planned) (gave .give .ensures)
 
 pub feshangul-plan-spec : {M : Type 1} → statement M
 feshangul-plan-spec =
@@ -45,8 +34,6 @@ feshangul-plan-spec =
     (λ c κs. search needs)
     returns
     (λ c κs. passed c .checked)
-    returns-2
-    write-requires
+    (λ c κs. let planned = c .before in (passed (planned .before) .room, fits (made planned)))
     (λ c. search needs)
-    (λ c. search needs)
-    returns-3)
+    returns-2)

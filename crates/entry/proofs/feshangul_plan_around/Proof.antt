@@ -1,0 +1,39 @@
+-- `entry::feshangul_plan_around` meets its contract: each end of the code is the same end of the definitions' answer. Assumes nothing.
+use mathlib.Core.Path.{sym, _∙_}
+use borrow.Author.Needs.{needs}
+use lib.ListN.{length}
+use Rattle.problem.specs.Reply.{request, Passed}
+use Rattle.problem.specs.Calls.{routesOf}
+use Rattle.problem.proofs.ReplyLaws.{refusal-passed}
+use Rattle.planner.specs.Planner.{Planned}
+use Rattle.entry.proofs.EntryLaws.{refused, given, fits, around-planned}
+use Rattle.entry.proofs.feshangul_plan_around.Statement.{statement}
+use Rattle.entry.proofs.feshangul_plan_around.Tie as tie
+
+-- past the checks
+passed : (c : tie.Else1) → let a = c .before .before .before .before .before .args in
+    Passed (a .table .now) (a .closed .now) (request (a .source) (a .terminal) (a .reach) (a .allowance)) (length (a .reply .now))
+passed c = refusal-passed _ _ _ _ (sym (c .before .refusal-around .ensures) ∙ c .if1 .left)
+
+-- what is planned
+made : (c : tie.After-plan-around) → let a = c .before .before .before .before .before .before .before .args in
+    Planned (routesOf (a .table .now) (a .closed .now) (request (a .source) (a .terminal) (a .reach) (a .allowance))) (a .allowance) (c .plan-around .result)
+made c = around-planned _ _ _ (c .before .read .ensures) (c .plan-around .ensures)
+
+returns : tie.Need-returns
+returns c = refused _ (c .before .refusal-around .ensures) (c .if1 .taken)
+
+returns-2 : tie.Need-returns-2
+returns-2 c = let gave = c .before .before in let planned = gave .before .before in given (passed (planned .before .before)) (made planned) (gave .give .ensures)
+
+pub feshangul-plan-around-spec : {M : Type 1} → statement M
+feshangul-plan-around-spec =
+    tie.close
+    (tie.spec
+    (λ c κs. search needs)
+    returns
+    (λ c κs. passed c .closed-set .whole)
+    (λ c κs. passed (c .before) .checked)
+    (λ c κs. let planned = c .before in (passed (planned .before .before) .room, fits (made planned)))
+    (λ c. search needs)
+    returns-2)
