@@ -1,6 +1,7 @@
 // The cases that every program of the benchmark reads, and the one way in which it is timed.
 //
 // A case is six 32-bit little-endian numbers (table length, reply length, source, terminal, reach, allowance), then the table.
+// Where spans are closed, the closed set's 16 bytes are the last of the table, and the planner alone reads such cases.
 // A program is called `PROGRAM REPEAT < cases`. It prints the mean nanoseconds of a case, then a line for each case:
 // shared count, total metres, mains tried, and 0 settled or 1 stopped.
 #pragma once
@@ -21,6 +22,7 @@ struct Answer {
 
 const size_t RECORD = 16;
 const size_t REPLY = 96;
+const size_t CLOSED_SET = 16;
 
 inline uint64_t number(const uint8_t *bytes, int count) {
     uint64_t n = 0;

@@ -17,6 +17,9 @@
 // `generate spans KIND..` makes the same cases with span numbers: one for each pair of nodes that arcs join, whichever way these lead.
 // Without that word every span number is zero.
 //
+// `generate closed N KIND..` closes N spans of each mesh, both directions, so that the terminal can still be reached, and puts the closed set's
+// 16 bytes behind the table; `generate open N KIND..` makes the same cases without the closed arcs, for programs that know no closed set.
+//
 // Lengths and risks are those of document 000, section 3.4.1: an arc costs 1/b with b even, drawn from four ranges by one of three
 // distributions (its Table 4); its risks are drawn uniformly. The cost is brought to whole metres, 2,000,000 divided by b.
 #include "cases.h"
@@ -88,8 +91,51 @@ void number_spans(std::vector<uint8_t> &table) {
     }
 }
 
+int to_close = 0;        // how many spans are closed
+bool left_out = false;   // the word was `open`: closed arcs are left out of the table
+
+// whether the terminal can be reached from the source over arcs that are not closed
+bool reaches(const Case &c, const std::vector<bool> &closed) {
+    uint32_t met = 1u << c.source, before = 0;
+    while (met != before) {
+        before = met;
+        for (size_t at = 0; at < c.table.size(); at += RECORD)
+            if (!closed[at / RECORD] && met >> c.table[at] & 1) met |= 1u << c.table[at + 1];
+    }
+    return met >> c.terminal & 1;
+}
+
+// Drawn by dice of their own, so that all else is as without.
+std::vector<bool> random_closings(const Case &c, Dice &dice) {
+    std::vector<bool> closed(c.table.size() / RECORD);
+    for (int left = to_close; left > 0;) {
+        auto tried = closed;
+        size_t arc = dice.below(closed.size());
+        if (closed[arc]) continue;
+        std::pair<int, int> ends = std::minmax(c.table[RECORD * arc], c.table[RECORD * arc + 1]);
+        for (size_t at = 0; at < c.table.size(); at += RECORD)
+            if (ends == std::pair<int, int>(std::minmax(c.table[at], c.table[at + 1]))) tried[at / RECORD] = true;
+        if (reaches(c, tried)) closed = tried, left--;
+    }
+    return closed;
+}
+
+void close_spans(Case &c) {
+    static Dice dice{50000};
+    auto closed = random_closings(c, dice);
+    std::vector<uint8_t> open, set(CLOSED_SET);
+    for (size_t arc = 0; arc < closed.size(); arc++) {
+        auto record = c.table.begin() + RECORD * arc;
+        if (closed[arc]) set[arc / 8] |= 1 << arc % 8;
+        else open.insert(open.end(), record, record + RECORD);
+    }
+    if (left_out) c.table = open;
+    else c.table.insert(c.table.end(), set.begin(), set.end());
+}
+
 void put_case(Case c) {
     if (numbered) number_spans(c.table);
+    if (to_close > 0) close_spans(c);
     write_case(c, stdout);
 }
 
@@ -253,6 +299,11 @@ void exposed(int count) {
 
 int main(int, char **words) {
     if (words[1] == std::string("spans")) numbered = true, words++;
+    if (words[1] == std::string("closed") || words[1] == std::string("open")) {
+        left_out = words[1] == std::string("open");
+        to_close = atoi(words[2]);
+        words += 2;
+    }
     std::string kind = words[1];
     auto word = [&](int i) { return atoi(words[i]); };
     if (kind == "reference") reference(word(2), word(3));

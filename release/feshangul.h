@@ -46,7 +46,7 @@ extern "C" {
 #define FESHANGUL_ALLOWANCE_MAX 1000000u
 #define FESHANGUL_MEND_BYTES_MAX 4096u   /* the longest table that is mended */
 #define FESHANGUL_CHANGE_BYTES 16u       /* one record of the list of what is lost */
-#define FESHANGUL_STACK_BYTES 65536u     /* stack to have left for a call; the most measured is 48,176 */
+#define FESHANGUL_STACK_BYTES 65536u     /* stack to have left for a call; the most measured is 50,496 */
 
 /* ---- The span table ---------------------------------------------------------------------------------------
  *

@@ -79,7 +79,7 @@ plain-refusing : (table : List ℕ) (q : Request) (size : ℕ) → Refusing (pla
 unfolding sizeChecks requestChecks arcChecks
 plain-refusing table q size =
     Refusing.more (Refusing.more (Refusing.more (Refusing.more (Refusing.more (Refusing.more (Refusing.more (Refusing.told (λ t z.
-        true≢false (sym (number-sound (arcsOf table) z) ∙ not-true _ t)) Refusing.none)))))))
+    true≢false (sym (number-sound (arcsOf table) z) ∙ not-true _ t)) Refusing.none)))))))
 
 module _ (table closed : List ℕ) (q : Request) (size n : ℕ) (own : n ≡ firstNumber (plainChecks table q size)) where
   past-plain : refusal table closed q size ≡ orNext n (firstNumber (closedChecks table closed))

@@ -12,10 +12,11 @@ use Rattle.laws.specs.Choosing.{Pairwise}
 use lib.Seq.{take-at, take-append-seam, drop-append-seam}
 use Rattle.problem.specs.declared.Request.{Request}
 use Rattle.problem.specs.Table.{mostArcs, mostShared, mostReach, mostAllowance, replySize, Bytes, over, recordAt, arcsOf}
-use Rattle.problem.specs.Routes.{Route, arcAt, metresOf}
+use Rattle.problem.specs.Routes.{Route, arcAt, metresOf, IsWay}
+use Rattle.problem.specs.Spans.{markedArcs}
 use Rattle.problem.specs.Closed.{closedSize, plannedArcs}
 use Rattle.problem.specs.Pairs.{pair, sharedRisks, sharedCount, sharedSpans, total, judged, NoWorse, ofRank, floor}
-use Rattle.problem.specs.Reply.{Answer, ClosedSet, answerAround, after, sharedIn, sharedSpansIn, rankedIn, mainMetresIn, standbyMetresIn, totalIn, sharedRisksIn, mainIn, standbyIn}
+use Rattle.problem.specs.Reply.{meshOver, Answer, ClosedSet, answerAround, after, sharedIn, sharedSpansIn, rankedIn, mainMetresIn, standbyMetresIn, totalIn, sharedRisksIn, mainIn, standbyIn}
 use Rattle.problem.specs.Calls.{routesOf, RouteOf, WayOf, pairMadeOf, pairSaid, allowing, Applies, Told, LowestFault, answerByRisks, answerOverAll, AllOpen, ClosesAside, CalledAround, Called}
 use Rattle.problem.specs.Mending.{mostFieldBytes, Clean, mendedTable, Change, mendedList, changesIn, oldNumber, roundedUp, Mending, mending, Mends, KeptAs, lost, Listed}
 use Rattle.problem.proofs.MendCallLaws as MendCallLaws
@@ -171,6 +172,12 @@ module _ {table closed : List ℕ} {q : Request} {b : ℕ} {before now later : L
 pub call-open : {table closed : List ℕ} {q : Request} {before now : List ℕ} {number : ℕ} → (c : CalledAround table closed q before number now) → number < 2
     → AllOpen closed (mainIn (take replySize now)) × AllOpen closed (standbyIn (take replySize now))
 call-open {table} {closed} {q} {before} c h = rw (replied c h) (promised.reply-open table closed q (length before) (low c h))
+
+-- settled: no two ways over open arcs do better than what the bytes say
+pub call-open-no-better : {table closed : List ℕ} {q : Request} {before now : List ℕ} {number : ℕ} → (c : CalledAround table closed q before number now) → number ≡ 0
+    → (u v : List ℕ) → IsWay (meshOver (markedArcs table) q) u → AllOpen closed u → IsWay (meshOver (markedArcs table) q) v → AllOpen closed v
+    → let p = pairMadeOf (markedArcs table) u v in NoWorse (sharedIn (take replySize now)) (totalIn (take replySize now)) (sharedCount p) (total p)
+call-open-no-better {table} {closed} {q} {before} c e = rw (replied c (omega arith)) (promised.open-no-better table closed q (length before) (zero-is c e))
 
 -- two calls with closed sets that give the same answer return the same number and leave the same buffer
 same-call : {table closed more : List ℕ} {q : Request} {before now later : List ℕ} {first second : ℕ} → CalledAround table closed q before first now → CalledAround table more q before second later

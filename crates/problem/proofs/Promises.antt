@@ -369,6 +369,16 @@ module _ (table closed : List ℕ) (q : Request) (sound : allSound (arcsOf table
   pub routes-open : (ks : List ℕ) → RouteOf table closed q ks ↔ (IsRoute (meshOver (markedArcs table) q) ks × AllOpen closed ks)
   routes-open = AroundLaws.routes-open table closed q sound node
 
+-- settled: no two ways over open arcs do better
+pub open-no-better : (table closed : List ℕ) (q : Request) (size : ℕ) → number table closed q size ≡ 0
+    → (u v : List ℕ) → IsWay (meshOver (markedArcs table) q) u → AllOpen closed u → IsWay (meshOver (markedArcs table) q) v → AllOpen closed v
+    → let p = pairMadeOf (markedArcs table) u v in NoWorse (sharedIn (reply table closed q size)) (totalIn (reply table closed q size)) (sharedCount p) (total p)
+open-no-better table closed q size e u v x open-u y open-v =
+    let c = low-number table closed q size (omega arith) .passed .checked in
+    let ways = ways-open table closed q (c .sound) (c .source-node) in
+    rw (← ClosedLaws.shut-route (closedIn closed) (markedArcs table) u, ← ClosedLaws.shut-route (closedIn closed) (markedArcs table) v)
+    (settled-no-better table closed q size (omega arith) e u v (ways u .1 (x, open-u)) (ways v .1 (y, open-v)))
+
 -- a closed arc gives no distance: nor do the ways free of something go over one
 pub distances-open : (table closed : List ℕ) → allSound (arcsOf table) ≡ true → (banned : Exposure) (terminal v : ℕ) → v ≤ lastNode → (ks : List ℕ)
     → FreeWay (plannedArcs table closed) banned terminal v ks ↔ (FreeWay (markedArcs table) banned terminal v ks × AllOpen closed ks)

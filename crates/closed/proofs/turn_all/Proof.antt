@@ -32,8 +32,7 @@ turned : tie.Need-loop-again Inv-loop μ-loop
 turned c =
     let did = c .before .before in
     let asked = did .before .before .before .before .before in
-    let l = asked .before .before in
-    (
+    let l = asked .before .before in (
       omega (arith, asked .before .loop-test .taken),
       rw (did .turn .ensures)
           (turning-closed _ _ _ (l .loop .inv .1) (omega (arith, asked .before .loop-test .taken, l .loop .inv .1 .size))
