@@ -1,7 +1,7 @@
 /* A C host in small: writes a span table (mesh A of the rules, each arc in a span of its own), asks for a pair from
  * node 0 to node 3, and prints it in words; asks for one while arc 1 is closed for works; then asks once more with an
  * arc that is too long, and prints the refusal; then mends that table, prints what is lost, and plans with what is
- * left. Build it with the release:
+ * left; then asks with an arc whose risks nobody listed, which is refused and not mended. Build it with the release:
  * cc -std=c99 -I release host/example.c release/libfeshangul.a */
 #include "feshangul.h"
 
@@ -91,6 +91,9 @@ static void print_refusal(uint32_t number)
     case FESHANGUL_ARC_METRES_RANGE:
         printf("refused: arc %lu is longer than %u metres\n", arc, FESHANGUL_ARC_METRES_MAX);
         break;
+    case FESHANGUL_ARC_RISKS_BLANK:
+        printf("refused: arc %lu has no risk listed; ask what it goes through\n", arc);
+        break;
     default:
         printf("refused %lu; feshangul.h says what to do\n", (unsigned long)number);
     }
@@ -173,5 +176,8 @@ int main(void)
     put_arc(table, 2, 0, 2, 13, FESHANGUL_ARC_METRES_MAX + 1, RISK(2));
     int refused = feshangul_reason(plan_and_print(table, sizeof table)) == FESHANGUL_ARC_METRES_RANGE;
     int mended = mend_and_plan(table, sizeof table) == FESHANGUL_SETTLED;
-    return planned && around && refused && mended ? 0 : 1;
+
+    put_arc(table, 2, 0, 2, 13, 4000, 0);
+    int blank = feshangul_reason(plan_and_print(table, sizeof table)) == FESHANGUL_ARC_RISKS_BLANK;
+    return planned && around && refused && mended && blank ? 0 : 1;
 }

@@ -74,6 +74,7 @@ static void test_numbers(void)
     HOLD(feshangul_reason(20) == FESHANGUL_ARC_NODE_RANGE && feshangul_faulty_arc(20) == 0);
     HOLD(feshangul_reason(277) == FESHANGUL_ARC_ENDS_EQUAL && feshangul_faulty_arc(277) == 1);
     HOLD(feshangul_reason(5398) == FESHANGUL_ARC_METRES_RANGE && feshangul_faulty_arc(5398) == 21);
+    HOLD(feshangul_reason(280) == FESHANGUL_ARC_RISKS_BLANK && feshangul_faulty_arc(280) == 1);
     HOLD(feshangul_reason(32534) == FESHANGUL_ARC_METRES_RANGE && feshangul_faulty_arc(32534) == FESHANGUL_ARCS_MAX - 1);
 }
 

@@ -25,8 +25,8 @@
 extern "C" {
 #endif
 
-#define FESHANGUL_VERSION "0.6.0"
-#define FESHANGUL_VERSION_NUMBER 600u    /* 10,000 times the first part, and 100 times the second, and the third */
+#define FESHANGUL_VERSION "0.7.0"
+#define FESHANGUL_VERSION_NUMBER 700u    /* 10,000 times the first part, and 100 times the second, and the third */
 
 /* ---- Sizes and limits ------------------------------------------------------------------------------------- */
 
@@ -55,7 +55,10 @@ extern "C" {
  *
  * Give both directions of a span, and all cables in one trench, the same span number: arcs of equal numbers lie in one
  * span, wherever they stand in the table. FESHANGUL_SPAN_UNKNOWN counts for no span, not even on an arc that both
- * routes take, so a pair looks safer than it is where a number is left out. */
+ * routes take, so a pair looks safer than it is where a number is left out.
+ *
+ * An arc of more than 0 metres has a risk listed, whatever its span number: a blank is refused with
+ * FESHANGUL_ARC_RISKS_BLANK. An arc of 0 metres, a patch inside a building, may have none. */
 #define FESHANGUL_ARC_TAIL 0u
 #define FESHANGUL_ARC_HEAD 1u
 #define FESHANGUL_ARC_SPAN 2u
@@ -89,7 +92,7 @@ uint32_t feshangul_plan(const uint8_t *table, size_t table_len, uint8_t *reply, 
  *                      not overlapping the reply. feshangul_close sets a bit. Bits at or past the table's number of
  *                      arcs have to be 0.
  *
- * All else is as for feshangul_plan. Closed arcs are checked for faults like open ones. */
+ * All else is as for feshangul_plan. Closed arcs are checked for faults and for blanks like open ones. */
 uint32_t feshangul_plan_around(const uint8_t *table, size_t table_len, const uint8_t *closed, size_t closed_len,
                                uint8_t *reply, size_t reply_len, uint32_t source, uint32_t terminal, uint32_t reach,
                                uint32_t allowance);
@@ -104,8 +107,8 @@ typedef struct {
 
 /* Mends a table from the field: writes the table that is left once every arc with a bad node, equal ends or a bad
  * length, every arc past 128 kept ones and a torn end are taken out, each kept record as it was; and the list of what
- * is lost. feshangul_plan refuses a mended table for none of its bytes. A clean table comes out as it is, with an empty
- * list, and so does a mended one.
+ * is lost. A clean table comes out as it is, with an empty list, and so does a mended one. feshangul_plan refuses a
+ * mended table for none of its bytes, but for a blank: an arc with no risk listed is left as it was, for a person.
  *
  * input, input_len    the table from the field, up to FESHANGUL_MEND_BYTES_MAX; only read. NULL with 0 is an empty one.
  * table, table_size   where the mended table goes, and
@@ -135,9 +138,10 @@ feshangul_mended feshangul_mend(const uint8_t *input, size_t input_len, uint8_t 
 /* ---- Numbers returned, and what to do on each --------------------------------------------------------------
  *
  * With 0 and 1 a reply is written. All others are refusals: nothing was planned and the reply buffer is as it was.
- * A fault of an arc comes as its number, 20 to 22, plus 256 times the number of the arc: take a number apart with the
- * two functions below. Of several faults the first is told, in the order in which they stand here, so mend it and ask
- * again; of several faulty arcs the lowest, with the first of its faults. Take what is not listed here as a refusal.
+ * What is wrong with an arc comes as its number, 20 to 22 or 24, plus 256 times the number of the arc: take a number
+ * apart with the two functions below. Of several faults the first is told, in the order in which they stand here, so
+ * mend it and ask again; of several faulty arcs the lowest, with the first of its faults; where no arc is faulty, of
+ * several with no risk listed the lowest. Take what is not listed here as a refusal.
  *
  * 9, 11 and 23 have ended and are given to nothing else: 9 was for any fault of any arc, 11 for a route of over
  * 62,000,000 m, and there is none, and 23 for bytes 2 and 3 of an arc, which may hold any number now. */
@@ -145,7 +149,8 @@ feshangul_mended feshangul_mend(const uint8_t *input, size_t input_len, uint8_t 
 /* Why: one of the numbers below, which is the number itself where it is about no arc. */
 static inline uint32_t feshangul_reason(uint32_t number) { return number % 256u; }
 
-/* Which arc, with a reason of 20 to 22: its record begins FESHANGUL_ARC_BYTES times this from the table's beginning. */
+/* Which arc, with a reason of 20 to 22 or 24: its record begins FESHANGUL_ARC_BYTES times this from the table's
+ * beginning. */
 static inline uint32_t feshangul_faulty_arc(uint32_t number) { return number / 256u; }
 
 /* Settled. Use the pair: it is the first of all pairs of routes, and a larger allowance gives the same reply. */
@@ -187,6 +192,14 @@ static inline uint32_t feshangul_faulty_arc(uint32_t number) { return number / 2
 /* The arc is longer than FESHANGUL_ARC_METRES_MAX. See whether its length was given in metres; an arc that is truly
  * longer cannot be planned with, unless as several in a row. */
 #define FESHANGUL_ARC_METRES_RANGE 22u
+
+/* The arc is longer than 0 metres and no risk is listed for it, though no arc has a fault; planned with, it would look
+ * separate from everything. Ask whoever runs the span which ducts, bridges, buildings and rivers it goes through, and
+ * list them; look at all arcs at once, since only the lowest is named. Where it truly shares nothing with any other
+ * span, give it a risk of its own. Do not invent one, or 0 metres, to get a pair out: what the planner does not know it
+ * cannot keep apart. A span number does not stand for a risk; closing the arc does not help, and feshangul_mend leaves
+ * it as it is. */
+#define FESHANGUL_ARC_RISKS_BLANK 24u
 
 /* Only returned by feshangul_plan_around: the closed set is not FESHANGUL_CLOSED_BYTES long, or closes an arc that the
  * table does not have. See whether it was made for another table, or before arcs were taken out of this one. */

@@ -55,7 +55,7 @@ fn meshes() -> Vec<Worked> {
         ),
         on("C1", MESH_C, plain, "settled; main [0]; standby [1]; shared 0; ranked 1"),
         on("D1", ARC_D1, plain, "main [0]; standby [0]; shared 1; floor 1"),
-        on("D2", ARC_D2, plain, "main [0]; standby [0]; shared 0; spans 0; floor 0"),
+        on("D2", ARC_D2, plain, "refused 24"),
         worked("E1", &[], plain, "refused 10"),
         on("E2", ARC_E2, request(0, 1, 0, 1_000), "main [0]; standby [0]; total 0"),
     ]
@@ -138,7 +138,7 @@ fn further() -> Vec<Worked> {
         ),
         on(
             "a partial route of equal length and more risks, none of them the main's, ranks before one with fewer",
-            "0: 0,2,100,{5}; 1: 0,2,100,{}; 2: 2,1,100,{}; 3: 0,1,150,{7}",
+            "0: 0,2,100,{5,6}; 1: 0,2,100,{6}; 2: 2,1,100,{6}; 3: 0,1,150,{7}",
             "settled; main [3]; standby [0,2]; shared 0; ranked 2; total 350",
         ),
         on(
@@ -152,86 +152,99 @@ fn further() -> Vec<Worked> {
 
 // ---- Spans (T-03) ----
 
-/// Mesh A, with a span of its own for each risk.
-const MESH_A_SPANS: &str = "0: 0,1,1000,{} span 1; 1: 1,3,4000,{} span 2; 2: 0,2,4000,{} span 3; \
-                            3: 2,3,1000,{} span 4; 4: 1,2,1000,{} span 5";
+/// Mesh A, with a span of its own for each risk; and one risk on all arcs, which any two routes share.
+const MESH_A_SPANS: &str = "0: 0,1,1000,{9} span 1; 1: 1,3,4000,{9} span 2; 2: 0,2,4000,{9} span 3; \
+                            3: 2,3,1000,{9} span 4; 4: 1,2,1000,{9} span 5";
 
 /// Three routes, all over arc 0.
 const MESH_RISK_AND_SPAN: &str = "0: 0,2,1000,{7} span 300; 1: 2,1,1000,{0} span 8; 2: 2,1,1500,{1} span 9; \
-                                  3: 2,1,1600,{} span 8";
+                                  3: 2,1,1600,{7} span 8";
 
-/// What one span does, and what zero does not.
+/// One arc in a span. The one route with itself: it crosses its span, so that is common, and on every route. Where no
+/// risk is listed the span does not stand for one (T-09).
+fn one_arc_in_a_span() -> Vec<Worked> {
+    let on = |name, mesh: &str, said| worked(name, &from_paper(mesh), request(0, 1, 10_000, 1_000), said);
+    let d1 = "settled; main [0]; standby [0]; shared 2; field 1; spans 1; floor 2; ranked 1; total 2000";
+    vec![
+        on("D1 in span 7", "0: 0,1,1000,{0} span 7", d1),
+        on("D1 in span 1", "0: 0,1,1000,{0} span 1", d1),
+        on("D1 in span 256", "0: 0,1,1000,{0} span 256", d1),
+        on("D1 in span 32,768", "0: 0,1,1000,{0} span 32768", d1),
+        on("D1 in span 65,535", "0: 0,1,1000,{0} span 65535", d1),
+        on("D2 in span 7", "0: 0,1,1000,{} span 7", "refused 24"),
+        on("D2 in span 1", "0: 0,1,1000,{} span 1", "refused 24"),
+        on("D2 in span 256", "0: 0,1,1000,{} span 256", "refused 24"),
+        on("D2 in span 32,768", "0: 0,1,1000,{} span 32768", "refused 24"),
+        on("D2 in span 65,535", "0: 0,1,1000,{} span 65535", "refused 24"),
+    ]
+}
+
+/// What spans do, and what zero does not. All arcs have one and the same risk: any two routes share it, so it says
+/// nothing of them, and the floor has it too.
 fn spans_alone() -> Vec<Worked> {
     let a = |reach, allowance| request(0, 3, reach, allowance);
     let plain = request(0, 1, 10_000, 1_000);
     let on = |name, mesh: &str, request, said| worked(name, &from_paper(mesh), request, said);
-    // The one route with itself: it crosses its span, so that is common, and on every route.
-    let d2 = "settled; main [0]; standby [0]; shared 1; field 0; spans 1; floor 1; ranked 1; total 2000";
     vec![
-        on("D2 in span 7", "0: 0,1,1000,{} span 7", plain, d2),
-        on("D2 in span 1", "0: 0,1,1000,{} span 1", plain, d2),
-        on("D2 in span 256", "0: 0,1,1000,{} span 256", plain, d2),
-        on("D2 in span 32,768", "0: 0,1,1000,{} span 32768", plain, d2),
-        on("D2 in span 65,535", "0: 0,1,1000,{} span 65535", plain, d2),
-        // Whatever shared a risk in A shares a span here, and what shared nothing shares nothing.
+        // Whatever shared a risk in A shares a span here, and what shared nothing shares no span.
         on(
             "A1 in spans",
             MESH_A_SPANS,
             a(10_000, 1_000),
-            "settled; shared 0; spans 0; floor 0; ranked 2; main [0,1]; standby [2,3]; total 10000",
+            "settled; shared 1; field 512; spans 0; floor 1; ranked 2; main [0,1]; standby [2,3]; total 10000",
         ),
         on(
             "A2 in spans",
             MESH_A_SPANS,
             a(10_000, 1),
-            "stopped; shared 1; field 0; spans 1; floor 0; ranked 1; main [0,4,3]; standby [0,1]; total 8000",
+            "stopped; shared 2; field 512; spans 1; floor 1; ranked 1; main [0,4,3]; standby [0,1]; total 8000",
         ),
         on(
             "A5 in spans",
             MESH_A_SPANS,
             a(4_999, 1_000),
-            "settled; shared 3; field 0; spans 3; floor 3; ranked 1; main [0,4,3]; standby [0,4,3]",
+            "settled; shared 4; field 512; spans 3; floor 4; ranked 1; main [0,4,3]; standby [0,4,3]",
         ),
-        // Zero is no span: [0] shares nothing with itself, and of the two routes it is the shorter.
+        // Zero is no span: [0] shares none with itself, and of the two routes it is the shorter.
         on(
             "zero is no span",
-            "0: 0,1,1000,{}; 1: 0,1,2000,{} span 3",
+            "0: 0,1,1000,{0}; 1: 0,1,2000,{0} span 3",
             plain,
-            "settled; shared 0; spans 0; floor 0; ranked 1; main [0]; standby [0]; total 2000",
+            "settled; shared 1; field 1; spans 0; floor 1; ranked 1; main [0]; standby [0]; total 2000",
         ),
         // Routes [0,1], [0,2] and [3], 2,000, 3,000 and 6,000 m; span 3 is on the first alone, and arc 0 on two. The
-        // first with the second shares nothing, 5,000 m; nor does the second with itself, 6,000 m, nor any other route
+        // first with the second shares no span, 5,000 m; nor does the second with itself, 6,000 m, nor any other route
         // with the third. Twice 2,000 is less than 5,000, twice 3,000 is not: J is 2.
         on(
             "arcs of which no span is known share none",
-            "0: 0,2,1000,{}; 1: 2,1,1000,{} span 3; 2: 2,1,2000,{}; 3: 0,1,6000,{}",
+            "0: 0,2,1000,{0}; 1: 2,1,1000,{0} span 3; 2: 2,1,2000,{0}; 3: 0,1,6000,{0}",
             plain,
-            "settled; shared 0; spans 0; floor 0; ranked 2; main [0,1]; standby [0,2]; total 5000",
+            "settled; shared 1; field 1; spans 0; floor 1; ranked 2; main [0,1]; standby [0,2]; total 5000",
         ),
         on(
             "spans 1 and 65,535 are two",
-            "0: 0,1,1000,{} span 1; 1: 0,1,1000,{} span 65535",
+            "0: 0,1,1000,{0} span 1; 1: 0,1,1000,{0} span 65535",
             plain,
-            "settled; shared 0; spans 0; floor 0; ranked 1; main [0]; standby [1]; total 2000",
+            "settled; shared 1; field 1; spans 0; floor 1; ranked 1; main [0]; standby [1]; total 2000",
         ),
         on(
             "spans 1 and 65,535 on every route",
-            "0: 0,2,1000,{} span 65535; 1: 2,1,1000,{} span 1",
+            "0: 0,2,1000,{0} span 65535; 1: 2,1,1000,{0} span 1",
             plain,
-            "settled; shared 2; field 0; spans 2; floor 2; ranked 1; main [0,1]; standby [0,1]; total 4000",
+            "settled; shared 3; field 1; spans 2; floor 3; ranked 1; main [0,1]; standby [0,1]; total 4000",
         ),
-        // 257 has the low byte of 1 and the high byte of 256. Equal lengths: the first that share nothing are first.
+        // 257 has the low byte of 1 and the high byte of 256. Equal lengths: the first that share no span are first.
         on(
             "spans alike in one byte are two",
-            "0: 0,1,1000,{} span 257; 1: 0,1,1000,{} span 1; 2: 0,1,1000,{} span 256",
+            "0: 0,1,1000,{0} span 257; 1: 0,1,1000,{0} span 1; 2: 0,1,1000,{0} span 256",
             plain,
-            "settled; shared 0; spans 0; floor 0; ranked 1; main [0]; standby [1]; total 2000",
+            "settled; shared 1; field 1; spans 0; floor 1; ranked 1; main [0]; standby [1]; total 2000",
         ),
         on(
             "spans alike but for the highest bit are two",
-            "0: 0,1,1000,{} span 1; 1: 0,1,1000,{} span 32769",
+            "0: 0,1,1000,{0} span 1; 1: 0,1,1000,{0} span 32769",
             plain,
-            "settled; shared 0; spans 0; floor 0; ranked 1; main [0]; standby [1]; total 2000",
+            "settled; shared 1; field 1; spans 0; floor 1; ranked 1; main [0]; standby [1]; total 2000",
         ),
     ]
 }
@@ -246,27 +259,27 @@ fn spans_again() -> Vec<Worked> {
         // 5, one from 1 to 2 and one from 2 to 1: shared 1. No risk is on all four, nor is the span: floor 0, J is N.
         on(
             "both directions of a span",
-            "0: 0,1,1000,{0,1}; 1: 1,2,1000,{} span 5; 2: 2,3,1000,{0,1}; \
-             3: 0,2,1000,{2,3}; 4: 2,1,1000,{} span 5; 5: 1,3,1000,{2,3}",
+            "0: 0,1,1000,{0,1}; 1: 1,2,1000,{0} span 5; 2: 2,3,1000,{0,1}; \
+             3: 0,2,1000,{2,3}; 4: 2,1,1000,{2} span 5; 5: 1,3,1000,{2,3}",
             request(0, 3, 10_000, 1_000),
             "settled; shared 1; field 0; spans 1; floor 0; ranked 4; main [0,1,2]; standby [3,4,5]; total 6000",
         ),
-        // [0,1] crosses span 9 twice, 2,000 m; [2] once, 3,000 m. Every pair shares that one span, and so [0,1] with
-        // itself is the shortest. Were it counted twice, [0,1] with [2] would share less.
+        // [0,1] crosses span 9 twice, 2,000 m; [2] once, 3,000 m. Every pair shares that one span and risk 0, and so
+        // [0,1] with itself is the shortest. Were the span counted twice, [0,1] with [2] would share less.
         on(
             "a span crossed twice by one route",
-            "0: 0,2,1000,{} span 9; 1: 2,1,1000,{} span 9; 2: 0,1,3000,{} span 9",
+            "0: 0,2,1000,{0} span 9; 1: 2,1,1000,{0} span 9; 2: 0,1,3000,{0} span 9",
             plain,
-            "settled; shared 1; field 0; spans 1; floor 1; ranked 1; main [0,1]; standby [0,1]; total 4000",
+            "settled; shared 2; field 1; spans 1; floor 2; ranked 1; main [0,1]; standby [0,1]; total 4000",
         ),
         // [0,1,2] crosses spans 9, 8, 9 and [3,4,5] crosses 8, 9, 8: two spans in common, not six, nor four. Both are
-        // on every route. Each with itself shares as much; the first is the shorter, 3,000 m.
+        // on every route, and risk 0 is. Each with itself shares as much; the first is the shorter, 3,000 m.
         on(
             "two spans crossed again and again",
-            "0: 0,2,1000,{} span 9; 1: 2,3,1000,{} span 8; 2: 3,1,1000,{} span 9; \
-             3: 0,4,1000,{} span 8; 4: 4,5,1000,{} span 9; 5: 5,1,2000,{} span 8",
+            "0: 0,2,1000,{0} span 9; 1: 2,3,1000,{0} span 8; 2: 3,1,1000,{0} span 9; \
+             3: 0,4,1000,{0} span 8; 4: 4,5,1000,{0} span 9; 5: 5,1,2000,{0} span 8",
             plain,
-            "settled; shared 2; spans 2; floor 2; ranked 1; main [0,1,2]; standby [0,1,2]; total 6000",
+            "settled; shared 3; field 1; spans 2; floor 3; ranked 1; main [0,1,2]; standby [0,1,2]; total 6000",
         ),
         // Two cables in one duct: each with itself shares its risk and the span, one with the other the span alone.
         on(
@@ -302,7 +315,7 @@ fn spans_and_risks() -> Vec<Worked> {
         // Nothing is on all: J is N = 3.
         on(
             "two spans against one risk",
-            "0: 0,2,1000,{0} span 1; 1: 2,1,1000,{} span 2; 2: 0,3,1000,{1} span 2; 3: 3,1,1000,{} span 1; \
+            "0: 0,2,1000,{0} span 1; 1: 2,1,1000,{0} span 2; 2: 0,3,1000,{1} span 2; 3: 3,1,1000,{1} span 1; \
              4: 0,1,3000,{0,1}",
             "settled; shared 1; field 1; spans 0; floor 0; ranked 3; main [0,1]; standby [4]; total 5000",
         ),
@@ -334,9 +347,10 @@ fn reply_by_hand() -> (Case, Vec<u8>) {
 
 /// 64 cables from 0 to 2, arc k of 1,000 + k metres in span k + 1; from 2 to 3 three ways of two arcs, P by node 4 of
 /// 2,000 m in spans 100 and 101, Q by node 5 of 3,000 m in 100 and 102, R by node 6 of 5,000 m in 101 and 102; and from
-/// 3 to 1 one arc of 1,000 m in span 65,535. 68 spans in all, those behind the cables with the highest numbers.
+/// 3 to 1 one arc of 1,000 m in span 65,535. 68 spans in all, those behind the cables with the highest numbers. Risk 0
+/// is on every arc.
 fn sixty_eight_spans() -> Vec<Arc> {
-    let arc = |tail, head, metres, span| Arc { tail, head, span, metres, risks: 0 };
+    let arc = |tail, head, metres, span| Arc { tail, head, span, metres, risks: 1 };
     let mut arcs: Vec<Arc> = (0..64).map(|k| arc(0, 2, 1_000 + k, k as u16 + 1)).collect();
     arcs.extend([arc(2, 4, 1_000, 100), arc(4, 3, 1_000, 101)]); // 64, 65: P
     arcs.extend([arc(2, 5, 1_000, 100), arc(5, 3, 2_000, 102)]); // 66, 67: Q
@@ -345,10 +359,11 @@ fn sixty_eight_spans() -> Vec<Arc> {
     arcs
 }
 
-/// 98 cables from 0 to 1 and then one arc after the other up to node 31, each of 100 m; arc k is in span k + 1.
+/// 98 cables from 0 to 1 and then one arc after the other up to node 31, each of 100 m with risk 0; arc k is in span
+/// k + 1.
 fn a_span_for_each_of_128() -> Vec<Arc> {
     let ends = (0..98).map(|_| (0, 1)).chain((1..31).map(|node| (node, node + 1)));
-    ends.zip(1..).map(|((tail, head), span)| Arc { tail, head, span, metres: 100, risks: 0 }).collect()
+    ends.zip(1..).map(|((tail, head), span)| Arc { tail, head, span, metres: 100, risks: 1 }).collect()
 }
 
 /// More spans than a risk field has bits.
@@ -357,24 +372,24 @@ fn many_spans() -> Vec<Worked> {
     let in_all: Vec<Arc> = (0..31)
         .map(|node| Arc { tail: node, head: node + 1, span: 500 + u16::from(node), metres: 1, risks: u64::MAX })
         .collect();
-    let own: Vec<Arc> = (0..128).map(|k| Arc { tail: 0, head: 1, span: 65_535 - k, metres: 9, risks: 0 }).collect();
+    let own: Vec<Arc> = (0..128).map(|k| Arc { tail: 0, head: 1, span: 65_535 - k, metres: 9, risks: 1 }).collect();
     vec![
-        // Span 65,535 is on every route and no other is: floor 1. Two routes by one way share its two spans beside
-        // that; by two ways one span, whichever two; by one cable that one more. So the least is 2, by two ways and two
-        // cables: by P and Q, 4,000 + 5,000 m and a metre for the second cable. The main that ranks first is arc 0
-        // and P, the shortest of all. Nobody comes down to the floor: J is N = 64 * 3.
+        // Risk 0 and span 65,535 are on every route and no other is: floor 2. Two routes by one way share its two spans
+        // beside these; by two ways one span, whichever two; by one cable that one more. So the least is 3, by two ways
+        // and two cables: by P and Q, 4,000 + 5,000 m and a metre for the second cable. The main that ranks first is
+        // arc 0 and P, the shortest of all. Nobody comes down to the floor: J is N = 64 * 3.
         worked(
             "68 spans, those in common with the highest numbers",
             &sixty_eight_spans(),
             request(0, 1, 10_000, 1_000),
-            "settled; shared 2; field 0; spans 2; floor 1; ranked 192; total 9001; \
+            "settled; shared 3; field 1; spans 2; floor 2; ranked 192; total 9001; \
              main [0,64,65,70]; standby [1,66,67,70]",
         ),
         worked(
             "68 spans, one main tried",
             &sixty_eight_spans(),
             request(0, 1, 10_000, 1),
-            "stopped; shared 2; field 0; spans 2; floor 1; ranked 1; total 9001; \
+            "stopped; shared 3; field 1; spans 2; floor 2; ranked 1; total 9001; \
              main [0,64,65,70]; standby [1,66,67,70]",
         ),
         // At 4,001 m only P is in reach, by cables 0 and 1: spans 100, 101 and 65,535 are on both.
@@ -382,15 +397,15 @@ fn many_spans() -> Vec<Worked> {
             "68 spans, two routes in reach",
             &sixty_eight_spans(),
             request(0, 1, 4_001, 1_000),
-            "settled; shared 3; spans 3; floor 3; ranked 2; main [0,64,65,70]; standby [1,64,65,70]; total 8001",
+            "settled; shared 4; spans 3; floor 4; ranked 2; main [0,64,65,70]; standby [1,64,65,70]; total 8001",
         ),
         // 98 routes of 31 arcs and 3,100 m, one for each cable. The 30 arcs behind the cables are on all of them, in
-        // spans 99 to 128: floor 30, and two cables share no more.
+        // spans 99 to 128, and risk 0 is: floor 31, and two cables share no more.
         worked(
             "128 arcs in 128 spans, 30 on every route",
             &a_span_for_each_of_128(),
             far,
-            "settled; shared 30; field 0; spans 30; floor 30; ranked 1; total 6200; \
+            "settled; shared 31; field 1; spans 30; floor 31; ranked 1; total 6200; \
              main [0,98,99,100,101,102,103,104,105,106,107,108,109,110,111,112,113,114,115,116,117,118,119,120,121,122,\
              123,124,125,126,127]; \
              standby [1,98,99,100,101,102,103,104,105,106,107,108,109,110,111,112,113,114,115,116,117,118,119,120,121,\
@@ -400,7 +415,7 @@ fn many_spans() -> Vec<Worked> {
             "128 parallel arcs in 128 spans",
             &own,
             request(0, 1, 10_000, 1_000),
-            "settled; shared 0; spans 0; floor 0; ranked 1; main [0]; standby [1]; total 18",
+            "settled; shared 1; field 1; spans 0; floor 1; ranked 1; main [0]; standby [1]; total 18",
         ),
         // One route of 31 arcs, each in a span of its own and with every risk: 64 and 31.
         worked("as much shared as can be", &in_all, far, "settled; shared 95; spans 31; floor 95; ranked 1; total 62"),
@@ -434,29 +449,32 @@ fn short_cuts() -> Vec<Worked> {
             2,
             "stopped; main [2]; standby [3]; shared 1; floor 0; ranked 2; total 4",
         ),
-        // [0,2] and [1,2], 7 and 8 m. At node 1 each beginning shares one span with the main [0,2]; behind it arc 2
-        // adds span 2, which [1] has already. So [0,2] shares two with itself, and one with [1,2].
+        // [0,2] and [1,2], 7 and 8 m, with one risk on all arcs. At node 1 each beginning shares one span with the main
+        // [0,2]; behind it arc 2 adds span 2, which [1] has already. So [0,2] shares two spans with itself, and one
+        // with [1,2].
         on(
             "partial routes compared by how many spans they share",
-            "0: 0,1,2,{} span 1; 1: 0,1,3,{} span 2; 2: 1,2,5,{} span 2",
+            "0: 0,1,2,{0} span 1; 1: 0,1,3,{0} span 2; 2: 1,2,5,{0} span 2",
             2,
             2,
-            "settled; main [0,2]; standby [1,2]; shared 1; spans 1; floor 1; ranked 2; total 15",
+            "settled; main [0,2]; standby [1,2]; shared 2; field 1; spans 1; floor 2; ranked 2; total 15",
         ),
+        // Risk 1 is on all arcs. Beside it each beginning shares one with the main [0,2] at node 1, [0] a risk and [1]
+        // a span, and again it is [1] to which arc 2 adds nothing.
         on(
             "a risk weighed against a span by their number",
-            "0: 0,1,2,{0}; 1: 0,1,3,{} span 2; 2: 1,2,5,{} span 2",
+            "0: 0,1,2,{0,1}; 1: 0,1,3,{1} span 2; 2: 1,2,5,{1} span 2",
             2,
             2,
-            "settled; main [0,2]; standby [1,2]; shared 1; field 0; spans 1; floor 1; ranked 2; total 15",
+            "settled; main [0,2]; standby [1,2]; shared 2; field 2; spans 1; floor 2; ranked 2; total 15",
         ),
-        // [3] 150 m, [0,2] and [1,2] 200 m: [3] shares nothing with either, and [0,2] ranks first.
+        // [3] 150 m, [0,2] and [1,2] 200 m: [3] shares the one risk with either and no span, and [0,2] ranks first.
         on(
             "a partial route of equal length with more spans, none of them the main's, ranks before one with fewer",
-            "0: 0,2,100,{} span 5; 1: 0,2,100,{}; 2: 2,1,100,{}; 3: 0,1,150,{} span 7",
+            "0: 0,2,100,{0} span 5; 1: 0,2,100,{0}; 2: 2,1,100,{0}; 3: 0,1,150,{0} span 7",
             1,
             1_000,
-            "settled; main [3]; standby [0,2]; shared 0; spans 0; floor 0; ranked 2; total 350",
+            "settled; main [3]; standby [0,2]; shared 1; field 1; spans 0; floor 1; ranked 2; total 350",
         ),
     ]
 }
@@ -582,16 +600,17 @@ fn closed_in_spans() -> Vec<Worked> {
     let on = |name, mesh: &str, arcs, terminal, said| {
         around(name, &from_paper(mesh), set(&[arcs]), request(0, terminal, 10_000, 1_000), said)
     };
-    let three = "0: 0,1,500,{} span 7; 1: 0,1,1000,{0} span 7; 2: 0,1,1000,{1} span 7";
+    let three = "0: 0,1,500,{3} span 7; 1: 0,1,1000,{0} span 7; 2: 0,1,1000,{1} span 7";
     let four = &format!("{three}; 3: 0,1,3000,{{2}}");
-    let mixed = "0: 0,1,500,{} span 5; 1: 0,1,1000,{} span 6; 2: 0,1,1000,{} span 5";
-    let both_ways = "0: 0,1,1000,{0,1}; 1: 1,2,1000,{} span 5; 2: 2,3,1000,{0,1}; \
-                     3: 0,2,1000,{2,3}; 4: 2,1,1000,{} span 5; 5: 1,3,1000,{2,3}";
+    let mixed = "0: 0,1,500,{0} span 5; 1: 0,1,1000,{0} span 6; 2: 0,1,1000,{0} span 5";
+    let both_ways = "0: 0,1,1000,{0,1}; 1: 1,2,1000,{0} span 5; 2: 2,3,1000,{0,1}; \
+                     3: 0,2,1000,{2,3}; 4: 2,1,1000,{2} span 5; 5: 1,3,1000,{2,3}";
     // [1] and [2] have span 7 in common, on every route; each with itself its risk as well.
     let in_7 = "settled; shared 1; field 0; spans 1; floor 1; ranked 1; main [1]; standby [2]; total 2000";
     // [3] shares nothing with either, so nothing is on all. 4,000 m is more than twice 1,000: J is N = 3.
     let past_7 = "settled; shared 0; spans 0; floor 0; ranked 3; main [1]; standby [3]; total 4000";
-    let two = "settled; shared 0; spans 0; floor 0; ranked 1; main [1]; standby [2]; total 2000";
+    // [1] and [2] have risk 0 in common, and no span.
+    let two = "settled; shared 1; field 1; spans 0; floor 1; ranked 1; main [1]; standby [2]; total 2000";
     // [0,5] and [3,2] 2,000 m with risks 0 to 3, and [3,4,5] 3,000 m with 2 and 3, which are on all: floor 2. [3,4,5]
     // with either shares these; with itself the span as well. 5,000 m is more than twice 2,000: J is N = 3.
     let back = "settled; shared 2; field 12; spans 0; floor 2; ranked 3; main [0,5]; standby [3,4,5]; total 5000";
@@ -672,17 +691,154 @@ fn faults_before_sets() -> Vec<Worked> {
     ]
 }
 
+// ---- Blanks (T-09) ----
+
+/// Which arcs are blank, and which of several is named; wherever it lies.
+fn blanks() -> Vec<Worked> {
+    let plain = request(0, 1, 10_000, 1_000);
+    let on = |name, mesh: &str, said| worked(name, &from_paper(mesh), plain, said);
+    let asked = |name, mesh: &str, request, said| worked(name, &from_paper(mesh), request, said);
+    let mut last = cables(128, &[]);
+    last[127].risks = 0;
+    let patched = "0: 0,2,0,{}; 1: 2,1,1000,{0}; 2: 0,1,2000,{1}";
+    vec![
+        on("a blank behind an arc of 0 metres", "0: 0,1,0,{}; 1: 0,1,1000,{}", "refused 280"),
+        on(
+            "the lowest of three",
+            "0: 0,1,9,{0}; 1: 0,1,0,{}; 2: 0,1,9,{}; 3: 0,1,1,{} span 3; 4: 0,1,5,{}",
+            "refused 536",
+        ),
+        on("the first of two", "0: 0,1,9,{}; 1: 0,1,1,{}", "refused 24"),
+        worked("a blank in the last of 128 arcs", &last, plain, "refused 32536"),
+        on("a blank beside an arc of the same ends", "0: 0,1,1000,{0}; 1: 0,1,1000,{}", "refused 280"),
+        on("one direction of a span blank", "0: 0,1,1000,{0} span 7; 1: 1,0,1000,{} span 7", "refused 280"),
+        on("a blank that nothing leads to", "0: 0,1,1000,{0}; 1: 5,6,1000,{}", "refused 280"),
+        on("a blank past the reach", "0: 0,1,1000,{0}; 1: 0,1,10001,{}", "refused 280"),
+        asked("D2, and no route so short", ARC_D2, request(0, 1, 999, 1_000), "refused 24"),
+        asked("D2, and no route to there", ARC_D2, request(0, 2, 10_000, 1_000), "refused 24"),
+        asked("D2, and no route back", ARC_D2, request(1, 0, 10_000, 1_000), "refused 24"),
+        // [0,1] and [2], 1,000 and 2,000 m, share nothing; 3,000 m is more than twice 1,000: J is N.
+        on("an arc of 0 metres on a route", patched, "settled; shared 0; floor 0; ranked 2; main [0,1]; standby [2]"),
+        on("E2 in a span", "0: 0,1,0,{} span 7", "settled; shared 1; field 0; spans 1; floor 1; main [0]; standby [0]"),
+    ]
+}
+
+/// One arc with a single bit of its risk field or of its length, each in turn. One risk is enough, and one bit of a
+/// length within 2,000,000 m too much without any; a longer one is told as that.
+fn blanks_byte_by_byte() -> Vec<Worked> {
+    let far = request(0, 1, REACH_MAX, 1);
+    let one = |name, metres, risks, said| worked(name, &[Arc { tail: 0, head: 1, span: 0, metres, risks }], far, said);
+    let of_length = |bit| if bit <= 20 { "refused 24" } else { "refused 22" };
+    let mut rows: Vec<Worked> =
+        (0..64).map(|risk| one("one risk", METRES_MAX, 1 << risk, "settled; shared 1; floor 1; main [0]")).collect();
+    rows.extend((0..32).map(|bit| one("one bit of a length, and no risk", 1 << bit, 0, of_length(bit))));
+    rows.extend([
+        one("2,000,000 m, and no risk", METRES_MAX, 0, "refused 24"),
+        one("2,000,001 m, and no risk", METRES_MAX + 1, 0, "refused 22"),
+    ]);
+    rows
+}
+
+/// What is told before a blank: what is wrong with the call, and with any arc, be it the lower or the higher one.
+fn blanks_among_faults() -> Vec<Worked> {
+    let plain = request(0, 1, 10_000, 1_000);
+    let arc = |tail, head, metres, risks| Arc { tail, head, span: 0, metres, risks };
+    let blank = arc(0, 1, 1_000, 0);
+    let two = |name, first, second, said| worked(name, &[first, second], plain, said);
+    let asked = |name, source, terminal, reach, allowance, said| {
+        worked(name, &[blank], request(source, terminal, reach, allowance), said)
+    };
+    let mut torn = worked("a blank, and a torn end", &[blank; 2], plain, "refused 3");
+    torn.case.table.truncate(17);
+    let mut short = worked("a blank, and a reply buffer of 95 bytes", &[blank], plain, "refused 4");
+    short.case.reply_len = 95;
+    vec![
+        two("a blank before a node 32", blank, arc(32, 1, 5, 1), "refused 276"),
+        two("a blank before equal ends", blank, arc(7, 7, 5, 1), "refused 277"),
+        two("a blank before a length of 2,000,001 m", blank, arc(0, 1, METRES_MAX + 1, 1), "refused 278"),
+        two("a blank behind a node 32", arc(0, 32, 5, 1), blank, "refused 20"),
+        two("a blank behind equal ends", arc(7, 7, 5, 1), blank, "refused 21"),
+        two("a blank behind a length of 2,000,001 m", arc(0, 1, METRES_MAX + 1, 1), blank, "refused 22"),
+        two("a node 32 in a blank behind another", blank, arc(0, 32, 5, 0), "refused 276"),
+        two("equal ends in a blank before another", arc(7, 7, 5, 0), blank, "refused 21"),
+        worked("129 blanks", &[blank; 129], plain, "refused 2"),
+        torn,
+        short,
+        asked("a blank, and source 32", 32, 1, 10_000, 1_000, "refused 5"),
+        asked("a blank, and terminal 32", 0, 32, 10_000, 1_000, "refused 5"),
+        asked("a blank, and source = terminal", 1, 1, 10_000, 1_000, "refused 6"),
+        asked("a blank, and a reach too far", 0, 1, REACH_MAX + 1, 1_000, "refused 7"),
+        asked("a blank, and no allowance", 0, 1, 10_000, 0, "refused 8"),
+        asked("a blank, and too much of it", 0, 1, 10_000, ALLOWANCE_MAX + 1, "refused 8"),
+    ]
+}
+
+/// Mesh A with one arc blank, each in turn: with nothing closed, with that arc closed, with all others, and with all.
+fn blanks_in_mesh_a() -> Vec<Worked> {
+    let said = ["refused 24", "refused 280", "refused 536", "refused 792", "refused 1048"];
+    let mut rows = Vec::new();
+    for (place, said) in said.into_iter().enumerate() {
+        let mut arcs = from_paper(MESH_A);
+        arcs[place].risks = 0;
+        let a = |name, closed| around(name, &arcs, set(&[closed]), request(0, 3, 10_000, 1_000), said);
+        rows.extend([
+            a("A with a blank", 0),
+            a("A with a blank, closed", 1 << place),
+            a("A with a blank, the others closed", 31 - (1 << place)),
+            a("A with a blank, all closed", 31),
+        ]);
+    }
+    rows
+}
+
+/// A blank is told of closed arcs too, and before 16 and 10; an arc of 0 metres is none.
+fn blanks_before_sets() -> Vec<Worked> {
+    let plain = request(0, 1, 10_000, 1_000);
+    let on = |name, mesh: &str, closed, said| around(name, &from_paper(mesh), closed, plain, said);
+    let two = "0: 0,1,1000,{}; 1: 0,1,1000,{}; 2: 0,1,1000,{2}";
+    let patch = "0: 0,1,0,{}; 1: 0,1,1000,{0}";
+    let too_long = "0: 0,1,1000,{}; 1: 0,1,2000001,{0}";
+    let mut last = cables(128, &[]);
+    last[127].risks = 0;
+    vec![
+        on("D2, closed", ARC_D2, set(&[1]), "refused 24"),
+        on("D2, and no byte", ARC_D2, vec![], "refused 24"),
+        on("D2, and 15 bytes", ARC_D2, vec![0; 15], "refused 24"),
+        on("D2, and 17 bytes", ARC_D2, vec![0; 17], "refused 24"),
+        on("D2, and arc 1 of 1", ARC_D2, set(&[2]), "refused 24"),
+        on("D2, closed, and arc 1 of 1", ARC_D2, set(&[3]), "refused 24"),
+        on("D2, and arc 127 of 1", ARC_D2, set_but(0, 15, &[128]), "refused 24"),
+        around("D2, no route and 15 bytes", &from_paper(ARC_D2), vec![0; 15], request(1, 0, 10_000, 9), "refused 24"),
+        on("the lower of two blanks closed", two, set(&[1]), "refused 24"),
+        on("the higher of two blanks closed", two, set(&[2]), "refused 24"),
+        on("both blanks closed", two, set(&[3]), "refused 24"),
+        around("the last of 128 blank, and closed", &last, set_but(0, 15, &[128]), plain, "refused 32536"),
+        around("the last of 128 blank, and all closed", &last, set_but(255, 0, &[]), plain, "refused 32536"),
+        on("a closed blank before an arc too long", too_long, set(&[1]), "refused 278"),
+        on("a blank before a closed arc too long", too_long, set(&[2]), "refused 278"),
+        on("a blank, an arc too long, and 15 bytes", too_long, vec![0; 15], "refused 278"),
+        on("an arc of 0 metres closed", patch, set(&[1]), "settled; shared 1; main [1]; standby [1]; total 2000"),
+        on("all but an arc of 0 metres closed", patch, set(&[2]), "settled; shared 0; main [0]; standby [0]; total 0"),
+        on("an arc of 0 metres, and 15 bytes", patch, vec![0; 15], "refused 16"),
+        on("an arc of 0 metres, and arc 2 of 2", patch, set(&[4]), "refused 16"),
+    ]
+}
+
 /// The rows of calls without a closed set.
 fn without_set() -> Vec<Worked> {
     let mut rows = meshes();
     rows.extend(limits());
     rows.extend(faulty_arcs());
     rows.extend(further());
+    rows.extend(one_arc_in_a_span());
     rows.extend(spans_alone());
     rows.extend(spans_again());
     rows.extend(spans_and_risks());
     rows.extend(many_spans());
     rows.extend(short_cuts());
+    rows.extend(blanks());
+    rows.extend(blanks_byte_by_byte());
+    rows.extend(blanks_among_faults());
     rows
 }
 
@@ -695,27 +851,44 @@ pub fn all() -> Vec<Worked> {
     rows.extend(closed_in_spans());
     rows.extend(sets_that_are_none());
     rows.extend(faults_before_sets());
+    rows.extend(blanks_in_mesh_a());
+    rows.extend(blanks_before_sets());
     rows
+}
+
+/// What a row's case prints, put to the program.
+fn text_of(row: &Worked, text: String) -> WorkedText {
+    WorkedText { name: row.name, input: row.case.input().expect("small nodes"), text }
 }
 
 /// Sixteen spans of 1,999 m in a row, case K's trap: kilometres are rounded once for a route, not for each span.
 fn sixteen_spans() -> Vec<Arc> {
-    (0..16).map(|node| Arc { tail: node, head: node + 1, span: 0, metres: 1_999, risks: 0 }).collect()
+    (0..16).map(|node| Arc { tail: node, head: node + 1, span: 0, metres: 1_999, risks: 1 }).collect()
 }
 
+/// The arc of 0 metres is without a risk, the others have one.
 fn kilometres() -> Vec<WorkedText> {
     let mut rows = Vec::new();
-    for (metres, km) in [(0, 0), (1, 1), (1_000, 1), (1_001, 2)] {
-        let arc = Arc { tail: 0, head: 1, span: 0, metres, risks: 0 };
-        let row = worked("K", &[arc], request(0, 1, 10_000, 1_000), "");
-        let text = format!("settled 0 0 1\nmain {km} 0\nstandby {km} 0\n");
-        rows.push(WorkedText { name: "K", input: row.case.input().expect("small nodes"), text });
+    for (metres, risks, km) in [(0, 0, 0), (1, 1, 1), (1_000, 1, 1), (1_001, 1, 2)] {
+        let row = worked("K", &[Arc { tail: 0, head: 1, span: 0, metres, risks }], request(0, 1, 10_000, 1_000), "");
+        rows.push(text_of(&row, format!("settled {risks} {risks} 1\nmain {km} 0\nstandby {km} 0\n")));
     }
-    let row = worked("K", &sixteen_spans(), request(0, 16, 31_984, 1_000), "");
+    let row = worked("K, 31,984 m", &sixteen_spans(), request(0, 16, 31_984, 1_000), "");
     let arcs = "0 1 2 3 4 5 6 7 8 9 10 11 12 13 14 15";
-    let text = format!("settled 0 0 1\nmain 32 {arcs}\nstandby 32 {arcs}\n");
-    rows.push(WorkedText { name: "K, 31,984 m", input: row.case.input().expect("small nodes"), text });
+    rows.push(text_of(&row, format!("settled 1 1 1\nmain 32 {arcs}\nstandby 32 {arcs}\n")));
     rows
+}
+
+/// Spans and blanks, as the program tells them.
+fn one_arc_or_two() -> Vec<WorkedText> {
+    let plain = request(0, 1, 10_000, 1_000);
+    let on = |name, mesh: &str, text: &str| text_of(&worked(name, &from_paper(mesh), plain, ""), text.to_string());
+    vec![
+        on("D1 in span 7", "0: 0,1,1000,{0} span 7", "settled 2 2 1\nmain 1 0\nstandby 1 0\n"),
+        on("D2", ARC_D2, "refused 24\n"),
+        on("D2 in span 7", "0: 0,1,1000,{} span 7", "refused 24\n"),
+        on("a blank behind an arc of 0 metres", "0: 0,1,0,{}; 1: 0,1,1000,{}", "refused 280\n"),
+    ]
 }
 
 fn program_refusals(a1: &[u8]) -> Vec<WorkedText> {
@@ -749,9 +922,7 @@ pub fn all_texts() -> Vec<WorkedText> {
     let a1 = meshes()[0].case.input().expect("small nodes");
     let text = "settled 0 0 2\nmain 5 0 1\nstandby 5 2 3\n".to_string();
     let mut rows = vec![WorkedText { name: "A1", input: a1.clone(), text }];
-    let d2 = &spans_alone()[0];
-    let text = "settled 1 1 1\nmain 1 0\nstandby 1 0\n".to_string();
-    rows.push(WorkedText { name: d2.name, input: d2.case.input().expect("small nodes"), text });
+    rows.extend(one_arc_or_two());
     rows.extend(kilometres());
     rows.extend(program_refusals(&a1));
     rows

@@ -1,7 +1,8 @@
 //! What the random calls around closed arcs have (T-06), counted from the calls themselves. Rows worked by hand are
 //! left out, and a run of many such calls that does not meet one of these at all fails: it would say nothing of that.
 
-use crate::listing::{answer, closed_on, faults, is_of_an_arc, Answer, Plan, Reply, Route};
+use crate::blank_counts::routes_but_for_blanks;
+use crate::listing::{answer, closed_on, faults, is_of_a_blank, is_of_an_arc, Answer, Plan, Reply, Route};
 use crate::listing::{ARCS_MAX, CLOSED_BYTES, REPLY_BYTES};
 use crate::mesh::{arcs_of, is_marked, marked, Arc, Case};
 use crate::tally::{Tally, MANY};
@@ -15,6 +16,7 @@ pub struct ClosedSets {
     lengths: Tally,
     marks: Tally,
     refusals: Tally,
+    blanks: Tally,
     answers: Tally,
     routes: Tally,
     steps: Tally,
@@ -57,6 +59,9 @@ impl ClosedSets {
             self.add_marks(closed, arcs_of(&case.table).len());
         }
         self.add_refusal(case, closed, answered);
+        if is_of_a_blank(answered.number()) {
+            self.add_blank(case, closed, answered.number() as usize / 256);
+        }
         if faults(case).is_empty() {
             self.add_answer(case, closed, answered, &answer(&case.without_set()));
         }
@@ -104,6 +109,20 @@ impl ClosedSets {
             ("an arc before 16 by one past the table", names_arc && is_no_set && closed.len() == CLOSED_BYTES),
             ("a closed arc", names_closed_arc),
             ("a closed arc before 16", names_closed_arc && is_no_set),
+        ]);
+    }
+
+    /// Counts a call that is refused for a blank (T-09).
+    fn add_blank(&mut self, case: &Case, closed: &[u8], arc: usize) {
+        let (is_closed, is_no_set) = (is_marked(closed, arc), faults(case).contains(&16));
+        self.blanks.add([
+            ("a closed one", is_closed),
+            ("an open one with others closed", !is_closed && !is_no_set && !marked(closed).is_empty()),
+            ("with nothing closed", closed.len() == CLOSED_BYTES && marked(closed).is_empty()),
+            ("before 16 by the length", is_no_set && closed.len() != CLOSED_BYTES),
+            ("before 16 by an arc past the table", is_no_set && closed.len() == CLOSED_BYTES),
+            ("a closed one before 16", is_closed && is_no_set),
+            ("where 10 would follow", !is_no_set && routes_but_for_blanks(case).is_empty()),
         ]);
     }
 
@@ -180,6 +199,7 @@ impl ClosedSets {
         self.lengths.print("their sets of so many bytes");
         self.marks.print("those of 16 mark");
         self.refusals.print("refused among them");
+        self.blanks.print("refused for a blank");
         self.answers.print("beside the answer without the set");
         self.routes.print("where routes are left, closed are arcs of");
         self.steps.print("their plans beside those without the set");
@@ -187,7 +207,9 @@ impl ClosedSets {
     }
 
     pub fn has_met_all(&self) -> bool {
-        let all = [&self.lengths, &self.marks, &self.refusals, &self.answers, &self.routes, &self.steps, &self.spans];
+        let of_calls = [&self.lengths, &self.marks, &self.refusals, &self.blanks];
+        let of_answers = [&self.answers, &self.routes, &self.steps, &self.spans];
+        let all = [of_calls, of_answers].concat();
         // Each is asked, so that each tells what it misses.
         self.calls < MANY || all.iter().filter(|tally| !tally.has_met_all("calls around closed arcs")).count() == 0
     }

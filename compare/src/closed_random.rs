@@ -1,7 +1,7 @@
 //! Random closed sets (T-06): works on the routes of an answer, on whole spans, on what matters to nobody and on all;
-//! sets that are none; and sets on damaged calls, which are refused for the damage first.
+//! sets that are none; and sets on damaged calls and on those with blanks, which are refused for that first.
 
-use crate::listing::{answer, faults, is_of_an_arc, ranking_within, Answer, Plan, Reply};
+use crate::listing::{answer, faults, is_blank, is_of_a_blank, is_of_an_arc, ranking_within, Answer, Plan, Reply};
 use crate::listing::{ARCS_MAX, CLOSED_BYTES, REACH_MAX};
 use crate::mesh::{arcs_of, mark, set_of, Arc, Case, Request};
 use crate::random::{self, allowance, draw_reach, Dice};
@@ -12,7 +12,7 @@ const CLOSED_PERCENT: usize = 50;
 /// So many sets in a hundred have a length that is none, and so many others mark an arc past the table.
 const NO_LENGTH_PERCENT: usize = 8;
 const PAST_PERCENT: usize = 8;
-/// The same for sets on damaged calls, where the damage is to be told first.
+/// The same for sets on damaged calls and on those with a blank, where that is to be told first.
 const DAMAGED_NO_SET_PERCENT: usize = 30;
 /// So many sound requests in a hundred are drawn anew for the open routes; the others stay those of all routes.
 const FITTING_PERCENT: usize = 60;
@@ -149,6 +149,17 @@ fn close_on_sound(dice: &mut Dice, case: &mut Case) {
     }
 }
 
+/// Brings these arcs as a set to a call that is refused before its set is looked at, often as one that is none.
+fn close_in_vain(dice: &mut Dice, case: &mut Case, arcs: usize, closed: &[usize]) {
+    let mut set = set_of(CLOSED_BYTES, closed);
+    if dice.percent(DAMAGED_NO_SET_PERCENT) {
+        give_no_length(dice, &mut set);
+    } else if dice.percent(DAMAGED_NO_SET_PERCENT) {
+        mark_past(dice, &mut set, arcs);
+    }
+    case.closed = Some(set);
+}
+
 /// Brings a set to a damaged call, often one that closes the faulty arcs, and often one that is none.
 fn close_on_damaged(dice: &mut Dice, case: &mut Case) {
     let arcs = arcs_of(&case.table).len().min(ARCS_MAX);
@@ -160,20 +171,33 @@ fn close_on_damaged(dice: &mut Dice, case: &mut Case) {
         _ => faulty,
     };
     let in_set: Vec<usize> = closed.into_iter().filter(|&arc| arc < ARCS_MAX).collect();
-    let mut set = set_of(CLOSED_BYTES, &in_set);
-    if dice.percent(DAMAGED_NO_SET_PERCENT) {
-        give_no_length(dice, &mut set);
-    } else if dice.percent(DAMAGED_NO_SET_PERCENT) {
-        mark_past(dice, &mut set, arcs);
-    }
-    case.closed = Some(set);
+    close_in_vain(dice, case, arcs, &in_set);
+}
+
+/// Brings a set to a call that is refused for a blank (T-09): one that closes all blanks or one, arcs here and there,
+/// every arc or nothing; and often one that is none.
+fn close_on_blank(dice: &mut Dice, case: &mut Case) {
+    let arcs = arcs_of(&case.table);
+    let blanks: Vec<usize> = (0..arcs.len()).filter(|&arc| is_blank(&arcs[arc])).collect();
+    let closed = match dice.below(8) {
+        0 => Vec::new(),
+        1 => (0..arcs.len()).collect(),
+        2..=3 => scattered(dice, arcs.len()),
+        4 => some_of(dice, &blanks, 1),
+        _ => blanks,
+    };
+    close_in_vain(dice, case, arcs.len(), &closed);
 }
 
 /// A case, half of the time with a closed set, and the trade's shape that its mesh was drawn in, if any.
 pub fn case(dice: &mut Dice) -> (Case, Option<Shape>) {
     let (mut case, shape) = random::case(dice);
     if dice.percent(CLOSED_PERCENT) {
-        let close = if faults(&case).is_empty() { close_on_sound } else { close_on_damaged };
+        let close = match faults(&case).first() {
+            None => close_on_sound,
+            Some(&first) if is_of_a_blank(first) => close_on_blank,
+            Some(_) => close_on_damaged,
+        };
         close(dice, &mut case);
     }
     (case, shape)

@@ -5,12 +5,12 @@ use crate::listing::{faults, is_of_an_arc, Answer, Plan};
 use crate::mesh::{Case, ARC_BYTES};
 use crate::trade::{Shape, SHAPES};
 
-/// The numbers of refusals, in order; 9, 11 and 23 have ended, and 20 to 22 come with an arc.
-const REFUSALS: [usize; 13] = [2, 3, 4, 5, 6, 7, 8, 20, 21, 22, 16, 10, 12];
+/// The numbers of refusals, in order; 9, 11 and 23 have ended, and 20 to 22 and 24 come with an arc.
+const REFUSALS: [usize; 14] = [2, 3, 4, 5, 6, 7, 8, 20, 21, 22, 24, 16, 10, 12];
 
 #[derive(Default)]
 pub struct Counts {
-    numbers: [usize; 23],
+    numbers: [usize; 25],
     several_faults: usize,
     named: Named,
     /// Reply buffers of 0, 95, 96, 97 and more bytes.

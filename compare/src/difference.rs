@@ -1,7 +1,7 @@
 //! A difference made small and put on paper.
 
 use crate::ask::Given;
-use crate::listing::{answer, closed_on, Answer, Plan, CLOSED_BYTES, REPLY_BYTES};
+use crate::listing::{answer, closed_on, is_blank, Answer, Plan, CLOSED_BYTES, REPLY_BYTES};
 use crate::mesh::{arcs_of, arcs_on_paper, marked, number, risks_on_paper, set_of, table_bytes, torn_end};
 use crate::mesh::{Arc, Case, ARC_BYTES};
 use std::ops::Range;
@@ -119,9 +119,15 @@ pub fn with_less_on_arcs(table: &[u8], take_off: impl Fn(&mut Arc)) -> Option<Ve
     (less != table).then_some(less)
 }
 
-/// The tables that are left when a risk is taken off all arcs, or a span.
+/// The tables that are left when a risk is taken off all arcs, or a span. A risk stays where the arc would be blank
+/// without it (T-09): that is told before what most cases differ in.
 fn tables_with_less_on_arcs(table: &[u8]) -> Vec<Vec<u8>> {
-    let without_risk = |risk: u32| with_less_on_arcs(table, |arc| arc.risks &= !(1 << risk));
+    let without_risk = |risk: u32| {
+        with_less_on_arcs(table, |arc| {
+            let less = Arc { risks: arc.risks & !(1 << risk), ..*arc };
+            *arc = if is_blank(&less) { *arc } else { less };
+        })
+    };
     let without_span = |span| with_less_on_arcs(table, |arc| arc.span = if arc.span == span { 0 } else { arc.span });
     let mut spans: Vec<u16> = arcs_of(table).iter().map(|arc| arc.span).collect();
     spans.sort_unstable();

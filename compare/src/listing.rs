@@ -181,6 +181,10 @@ impl Plan {
         lists.sort();
         assert!(lists.windows(2).all(|two| !two[1].starts_with(two[0])), "no route is the beginning of another");
         assert!(self.ranking.iter().all(|route| (1..=31).contains(&route.arcs.len())), "a route has 1 to 31 arcs");
+        assert!(
+            self.ranking.iter().all(|route| route.metres == 0 || route.risks != 0),
+            "a route of more than 0 metres has a risk"
+        );
         assert!(self.best.iter().all(|pair| pair.main <= pair.standby), "the main's rank never exceeds the standby's");
         assert!(self.best.iter().all(|pair| pair.shared >= self.floor), "no pair shares fewer than the floor");
         assert!(
@@ -325,13 +329,29 @@ pub fn is_of_an_arc(number: u32) -> bool {
     (20..=22).contains(&(number % 256))
 }
 
+/// Whether an arc of more than 0 metres has an empty risk field (T-09). A span number does not fill it, and it is no
+/// fault of the arc as T-01 and T-02 mean it: the mender leaves it for a person.
+pub fn is_blank(arc: &Arc) -> bool {
+    arc.metres > 0 && arc.risks == 0
+}
+
+/// The number that tells a blank, and says its arc as well.
+pub fn of_blank(arc: usize) -> u32 {
+    24 + 256 * arc as u32
+}
+
+pub fn is_of_a_blank(number: u32) -> bool {
+    number % 256 == of_blank(0)
+}
+
 /// Whether a closed set has a length that is none, or marks an arc past the table (T-06).
 fn is_no_set(set: &[u8], arcs: usize) -> bool {
     set.len() != CLOSED_BYTES || marked(set).iter().any(|&arc| arc >= arcs)
 }
 
 /// Which numbers apply before any route is looked for, in order: those of the call, then those of each arc, which say
-/// the arc as well and come of closed arcs too, then that of the closed set.
+/// the arc as well and come of closed arcs too, then that of the lowest blank, which does so too, then that of the
+/// closed set.
 pub fn faults(case: &Case) -> Vec<u32> {
     let r = &case.request;
     let of_call = [
@@ -348,6 +368,7 @@ pub fn faults(case: &Case) -> Vec<u32> {
     for (place, arc) in arcs.iter().enumerate() {
         checks.extend(arc_checks(arc).map(|(number, holds)| (number + 256 * place as u32, holds)));
     }
+    checks.extend(arcs.iter().position(is_blank).map(|lowest| (of_blank(lowest), true)));
     checks.push((16, case.closed.as_ref().is_some_and(|set| is_no_set(set, arcs.len()))));
     checks.iter().filter(|check| check.1).map(|check| check.0).collect()
 }

@@ -1,6 +1,6 @@
 //! The separate program: holds the planner to document 01, with the requests that have landed, by listing every route
-//! and every pair; and the mender to T-01 and T-03, by mending each table itself. Its rules are read anew from those;
-//! it shares no code and no definition with the library.
+//! and every pair; and the mender to T-01, T-03 and T-09, by mending each table itself. Its rules are read anew from
+//! those; it shares no code and no definition with the library.
 //!
 //!   compare listing                        holds the listing itself to the cases that 01 works by hand, and the mender
 //!                                          here to tables mended by hand
@@ -13,6 +13,7 @@
 //! where many random cases did not meet something that they are for.
 
 mod ask;
+mod blank_counts;
 mod cases;
 mod closed_counts;
 mod closed_random;
@@ -31,6 +32,7 @@ mod tally;
 mod trade;
 
 use ask::{Answers, Call, Given};
+use blank_counts::{MendBlanks, PlanBlanks};
 use closed_counts::ClosedSets;
 use counts::Counts;
 use difference::{expected_on_paper, given_on_paper, smaller_cases, smallest};
@@ -155,23 +157,26 @@ fn compare_calls(count: u64, seed: u64, command: &[String]) -> bool {
     let (all, shapes): (Vec<Case>, Vec<Option<Shape>>) = all.into_iter().unzip();
     let worked = all.len() - count as usize;
 
-    let (mut counts, mut spans, mut closed) = (Counts::default(), PlanSpans::default(), ClosedSets::default());
+    let (mut counts, mut spans, mut blanks) = (Counts::default(), PlanSpans::default(), PlanBlanks::default());
+    let mut closed = ClosedSets::default();
     let compared = compare("calls", seed, command, &all, |place| {
         let answer = answer(&all[place]);
         counts.add(Some(&all[place]), shapes[place], &answer);
         if place >= worked {
             spans.add(&all[place], &answer);
+            blanks.add(&all[place], &answer);
             closed.add(&all[place], &answer);
         }
         expected_of(&all[place], &answer)
     });
     counts.print();
     spans.print();
+    blanks.print();
     closed.print();
     if let Some(first) = compared.first {
         show_call(command, &all[first]);
     }
-    spans.has_met_all() & closed.has_met_all() && compared.same
+    spans.has_met_all() & blanks.has_met_all() & closed.has_met_all() && compared.same
 }
 
 fn show_call(command: &[String], case: &Case) {
@@ -189,21 +194,23 @@ fn compare_mends(count: u64, seed: u64, command: &[String]) -> bool {
     all.extend((0..count).map(|_| mender_random::mend(&mut dice)));
     let worked = all.len() - count as usize;
 
-    let (mut counts, mut spans) = (MenderCounts::default(), MendSpans::default());
+    let (mut counts, mut spans, mut blanks) = (MenderCounts::default(), MendSpans::default(), MendBlanks::default());
     let compared = compare("mends", seed, command, &all, |place| {
         let outcome = all[place].outcome();
         counts.add(&all[place], &outcome);
         if place >= worked {
             spans.add(&all[place], &outcome);
+            blanks.add(&all[place], &outcome);
         }
         all[place].expected(&outcome)
     });
     counts.print();
     spans.print();
+    blanks.print();
     if let Some(first) = compared.first {
         show_mend(command, &all[first]);
     }
-    spans.has_met_all() && compared.same
+    spans.has_met_all() & blanks.has_met_all() && compared.same
 }
 
 fn show_mend(command: &[String], mend: &Mend) {
@@ -226,7 +233,7 @@ fn inputs(count: u64, dice: &mut Dice) -> Vec<(Vec<u8>, Option<Shape>)> {
 fn compare_texts(count: u64, seed: u64, command: &[String]) -> bool {
     let all = inputs(count, &mut Dice::new(seed));
     let worked = all.len() - count as usize;
-    let (mut counts, mut spans) = (Counts::default(), PlanSpans::default());
+    let (mut counts, mut spans, mut blanks) = (Counts::default(), PlanSpans::default(), PlanBlanks::default());
     let mut differing = Vec::new();
     let (mut timed, mut seconds) = (0, 0.0);
     for (place, (input, shape)) in all.iter().enumerate() {
@@ -234,6 +241,7 @@ fn compare_texts(count: u64, seed: u64, command: &[String]) -> bool {
         counts.add(case.as_ref(), *shape, &answer);
         if let (Some(case), true) = (&case, place >= worked) {
             spans.add(case, &answer);
+            blanks.add(case, &answer);
         }
         let slowly = place % SLOW_EVERY == 0;
         let started = Instant::now();
@@ -253,10 +261,11 @@ fn compare_texts(count: u64, seed: u64, command: &[String]) -> bool {
     );
     counts.print();
     spans.print();
+    blanks.print();
     if let Some(&first) = differing.first() {
         show_text(command, &all[first].0);
     }
-    spans.has_met_all() && differing.is_empty()
+    spans.has_met_all() & blanks.has_met_all() && differing.is_empty()
 }
 
 fn show_text(command: &[String], input: &[u8]) {

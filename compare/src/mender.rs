@@ -1,8 +1,9 @@
-//! T-01 read literally, as T-03 changed it: what is left of a table from the field, and the list of what was lost. Each
-//! sentence of the requests is one step here, or one promise that every mended table is held to.
+//! T-01 read literally, as T-03 and T-09 changed it: what is left of a table from the field, and the list of what was
+//! lost. Each sentence of the requests is one step here, or one promise that every mended table is held to.
 
 use crate::ask::{filled, Call, Given, MEND};
-use crate::listing::{faults, ALLOWANCE_MAX, ARCS_MAX, METRES_MAX, NODE_MAX, REACH_MAX, REPLY_BYTES};
+use crate::listing::{faults, is_blank, is_of_a_blank, of_blank};
+use crate::listing::{ALLOWANCE_MAX, ARCS_MAX, METRES_MAX, NODE_MAX, REACH_MAX, REPLY_BYTES};
 use crate::mesh::{arcs_of, number, table_bytes, table_on_paper, torn_end, Arc, Case, Request, ARC_BYTES};
 
 pub const INPUT_BYTES_MAX: usize = 4_096;
@@ -201,10 +202,22 @@ impl Call for Mend {
 
 // ---- What is promised ----
 
-/// Whether the planner finds no fault in a table, by its own rules and not by those above.
-pub fn is_clean(table: &[u8]) -> bool {
+/// What the planner refuses a table for, by its own rules and not by those above.
+fn refusals_by_planner(table: &[u8]) -> Vec<u32> {
     let request = Request { source: 0, terminal: 1, reach: REACH_MAX, allowance: ALLOWANCE_MAX };
-    faults(&Case { table: table.to_vec(), closed: None, reply_len: REPLY_BYTES, request }).is_empty()
+    faults(&Case { table: table.to_vec(), closed: None, reply_len: REPLY_BYTES, request })
+}
+
+/// Whether the planner finds no fault in a table but a blank, which is left for a person (T-09).
+pub fn is_clean(table: &[u8]) -> bool {
+    refusals_by_planner(table).into_iter().all(is_of_a_blank)
+}
+
+/// What the planner is to refuse a mended table for: the first of the input's blanks that are kept, by its new number.
+fn refused_for(input: &[u8], old: &[u16]) -> Vec<u32> {
+    let arcs = arcs_of(input);
+    let first = old.iter().position(|&old| is_blank(&arcs[usize::from(old)]));
+    first.map(of_blank).into_iter().collect()
 }
 
 /// Whether a record says one of the five reasons, that the arc is lost, and nothing else.
@@ -228,7 +241,7 @@ fn accounts_for_all(input: &[u8], list: &[u8], given_back: &[u16]) -> bool {
 }
 
 impl Mend {
-    /// Holds what is expected to what T-01 and T-03 promise; a failure is a fault of this program, or of a request.
+    /// Holds what is expected to what T-01, T-03 and T-09 promise; a failure is a fault here or of a request.
     fn hold_to_what_is_promised(&self, mended: &Mended) {
         let (input, table, list) = (&self.input[..], &mended.table[..], &mended.list[..]);
         let unchanged = Mended { table: table.to_vec(), list: Vec::new() };
@@ -246,6 +259,7 @@ impl Mend {
                 (0..).zip(&old).all(|(new, &old)| is_got_back(input, table, old, new)),
             ),
             ("every old number is given back or listed as lost", accounts_for_all(input, list, &old)),
+            ("blanks are left, and nothing else to refuse", refusals_by_planner(table) == refused_for(input, &old)),
         ];
         for (promise, is_kept) in promises {
             assert!(is_kept, "not so: {promise}\n{}", self.on_paper());

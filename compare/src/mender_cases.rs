@@ -19,6 +19,11 @@ const SPAN_65535: Record = [5, 31, 255, 255, 0, 0, 0, 0, 0, 0, 0, 0, 0, 0, 0, 12
 /// The other direction of the first of these.
 const SPAN_1_BACK: Record = [31, 5, 1, 0, 0, 0, 0, 0, 0, 0, 0, 0, 0, 0, 0, 128];
 
+// A without its risk, D2: 1,000 m; the same in a span; and 0 m without a risk, which is no blank.
+const BLANK: Record = [0, 1, 0, 0, 0xE8, 3, 0, 0, 0, 0, 0, 0, 0, 0, 0, 0];
+const BLANK_IN_SPAN: Record = [0, 1, 7, 0, 0xE8, 3, 0, 0, 0, 0, 0, 0, 0, 0, 0, 0];
+const PATCH: Record = [0, 1, 0, 0, 0, 0, 0, 0, 0, 0, 0, 0, 0, 0, 0, 0];
+
 // Arcs with one fault.
 const NODE: Record = [32, 1, 0, 0, 0xE8, 3, 0, 0, 1, 0, 0, 0, 0, 0, 0, 0];
 const ENDS: Record = [7, 7, 0, 0, 0xE8, 3, 0, 0, 1, 0, 0, 0, 0, 0, 0, 0];
@@ -86,6 +91,29 @@ fn with_spans() -> Vec<WorkedMend> {
             &[(0, SPAN_256), (2, SPAN_65535), (3, A), (4, SPAN_1)],
             &[lost(1, 1)],
         ),
+    ]
+}
+
+/// T-09: a blank is left for a person. It is no reason, and comes out as it went in, with the numbers of all arcs.
+fn with_blanks() -> Vec<WorkedMend> {
+    let first = |arc| (0..128).map(|old| (old, arc)).collect::<Vec<_>>();
+    let faulty = |name, mut arc: Record, reason| {
+        arc[8] = 0;
+        row(name, &[&BLANK, &arc, &A], &[(0, BLANK), (2, A)], &[lost(1, reason)])
+    };
+    vec![
+        row("D2", &[&BLANK], &[(0, BLANK)], &[]),
+        row("D2 in span 7", &[&BLANK_IN_SPAN], &[(0, BLANK_IN_SPAN)], &[]),
+        row("an arc of 0 metres without a risk", &[&PATCH], &[(0, PATCH)], &[]),
+        row("a blank between two arcs", &[&A, &BLANK, &B], &[(0, A), (1, BLANK), (2, B)], &[]),
+        row("a blank behind a lost arc", &[&NODE, &A, &BLANK], &[(1, A), (2, BLANK)], &[lost(0, 1)]),
+        row("a blank before a torn end", &[&BLANK, &BLANK[..15]], &[(0, BLANK)], &[lost(1, 6)]),
+        faulty("a bad node in a blank", NODE, 1),
+        faulty("equal ends in a blank", ENDS, 2),
+        faulty("2,000,001 m in a blank", LENGTH, 3),
+        row("128 blanks", &[&BLANK.repeat(128)], &first(BLANK), &[]),
+        row("129 blanks", &[&BLANK.repeat(129)], &first(BLANK), &[lost(128, 5)]),
+        row("a blank behind 128 kept", &[&A.repeat(128), &BLANK], &first(A), &[lost(128, 5)]),
     ]
 }
 
@@ -208,7 +236,7 @@ fn sizes() -> Vec<WorkedMend> {
 }
 
 pub fn all() -> Vec<WorkedMend> {
-    [clean(), with_spans(), one_fault(), several_faults(), past_128(), longest(), sizes()]
+    [clean(), with_spans(), with_blanks(), one_fault(), several_faults(), past_128(), longest(), sizes()]
         .into_iter()
         .flatten()
         .collect()

@@ -1,7 +1,7 @@
-//! Random meshes and requests from a fixed seed, small enough to list, with what goes wrong in this trade; and damage
-//! done to them, often in several places at once.
+//! Random meshes and requests from a fixed seed, small enough to list, with what goes wrong in this trade; and blanks
+//! left in them, and damage done to them, often in several places at once.
 
-use crate::listing::{ranking_within, risks_and_spans, Plan, Route};
+use crate::listing::{is_blank, ranking_within, risks_and_spans, Plan, Route};
 use crate::listing::{ALLOWANCE_MAX, ARCS_MAX, METRES_MAX, REACH_MAX, REPLY_BYTES};
 use crate::mesh::{arcs_of, table_bytes, torn_end, Arc, Case, Request, ARC_BYTES};
 use crate::trade::{Shape, SHAPES};
@@ -10,6 +10,9 @@ use crate::trade::{Shape, SHAPES};
 const TRADE_PERCENT: usize = 25;
 /// So many meshes in a hundred have spans that are known; in the others all are zero.
 pub const SPANS_PERCENT: usize = 50;
+/// So many cases in a hundred get blanks (T-09), and are refused for these where nothing is told before. The others
+/// have none: where each arc may be blank, next to nothing is planned.
+const BLANK_PERCENT: usize = 6;
 /// A mesh with more routes than this, or more arcs to look at in listing them, loses an arc.
 const FEW: Listable = Listable { routes: 300, patience: 5_000 };
 /// The same for some meshes, since every pair of so many takes its time.
@@ -206,6 +209,29 @@ fn risks(dice: &mut Dice, arcs: &mut [Arc]) {
             _ => dice.pick(&[0, of_few, of_few | one]),
         };
     }
+    fill_blanks(dice, arcs);
+}
+
+/// Gives a risk to each arc that T-09 would refuse; arcs of 0 metres keep their blank. In most meshes it is one and the
+/// same for all: nearly every pair then shares it, and what else there is decides as it did where nothing was listed.
+/// In the others it is one of each arc's own: who goes over the arc twice shares it, and few others do.
+fn fill_blanks(dice: &mut Dice, arcs: &mut [Arc]) {
+    let same = dice.below(64);
+    let is_same = dice.percent(60);
+    for (place, arc) in arcs.iter_mut().enumerate().filter(|(_, arc)| is_blank(arc)) {
+        arc.risks = 1 << if is_same { same } else { place % 64 };
+    }
+}
+
+/// D2's kind: what was listed is forgotten, and mostly only spans tell what is shared. In some meshes many arcs have 0
+/// metres, or all, and with that the blank which T-09 leaves them.
+fn forget_risks(dice: &mut Dice, arcs: &mut [Arc]) {
+    let patch_percent = dice.pick(&[0, 0, 0, 60, 100]);
+    for arc in arcs.iter_mut() {
+        arc.risks = 0;
+        arc.metres = if dice.percent(patch_percent) { 0 } else { arc.metres };
+    }
+    fill_blanks(dice, arcs);
 }
 
 /// Gives both directions of each span the same length and risks, as most tables have them.
@@ -334,8 +360,7 @@ fn mesh(dice: &mut Dice, shape: Option<Shape>) -> (Vec<Arc>, u32, u32) {
     if dice.percent(SPANS_PERCENT) {
         number_spans(dice, &mut arcs);
         match shape {
-            // D2's kind: no risk is listed, and only spans tell what is shared.
-            None if dice.percent(30) => arcs.iter_mut().for_each(|arc| arc.risks = 0),
+            None if dice.percent(40) => forget_risks(dice, &mut arcs),
             None => (),
             Some(shape) => shape.lay_spans(&mut arcs),
         }
@@ -426,6 +451,37 @@ fn sound(dice: &mut Dice, shape: Option<Shape>) -> Case {
     }
 }
 
+/// The first place of so many, the last or any.
+fn some_place(dice: &mut Dice, count: usize) -> usize {
+    let anywhere = dice.below(count);
+    dice.pick(&[0, count - 1, anywhere])
+}
+
+// ---- Blanks (T-09) ----
+
+/// Empties the risk field of one arc or of a few. One of 0 metres among them is no blank; now and then an arc gets a
+/// length of which one byte alone is used, or the largest.
+fn leave_blanks(dice: &mut Dice, case: &mut Case) {
+    let mut arcs = arcs_of(&case.table);
+    if arcs.is_empty() {
+        return;
+    }
+    for _ in 0..dice.pick(&[1, 1, 2, 5]) {
+        let place = some_place(dice, arcs.len());
+        let arc = &mut arcs[place];
+        arc.risks = 0;
+        arc.metres = dice.pick(&[arc.metres, arc.metres, arc.metres, 1, 256, 65_536, METRES_MAX]);
+    }
+    case.table = table_bytes(&arcs);
+    // Faults of arcs are told before a blank, and that no route is so short behind it.
+    if dice.percent(12) {
+        damage_arc(dice, case);
+    }
+    if dice.percent(20) {
+        case.request.reach = dice.pick(&[0, 0, 1]);
+    }
+}
+
 // ---- Damage ----
 
 /// Gives an arc one of the faults that it can have; it may have others.
@@ -443,8 +499,7 @@ fn damage_arc(dice: &mut Dice, case: &mut Case) {
     if arcs.is_empty() {
         return;
     }
-    let anywhere = dice.below(arcs.len());
-    let place = dice.pick(&[0, arcs.len() - 1, anywhere]);
+    let place = some_place(dice, arcs.len());
     spoil(dice, &mut arcs[place]);
     case.table = [&table_bytes(&arcs), torn_end(&case.table)].concat();
 }
@@ -512,6 +567,9 @@ fn damage(dice: &mut Dice, case: &mut Case) {
 pub fn case(dice: &mut Dice) -> (Case, Option<Shape>) {
     let shape = if dice.percent(TRADE_PERCENT) { Some(dice.pick(&SHAPES).0) } else { None };
     let mut case = sound(dice, shape);
+    if dice.percent(BLANK_PERCENT) {
+        leave_blanks(dice, &mut case);
+    }
     if dice.percent(25) {
         damage(dice, &mut case);
     }

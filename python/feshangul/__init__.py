@@ -8,11 +8,12 @@
         print(answer.verdict, answer.main.metres, answer.standby.metres)
 
 `plan` returns a Pair, or a Refusal with its number and words. `mesh.with_closed([3, 7])` is the mesh with these arcs closed, so
-that no route takes them. `mend` takes out of a mesh what the planner would refuse of its arcs, and returns a Mended, or a
-MendRefusal; `mend_table` does so for a table in bytes. The standard library alone is needed.
+that no route takes them. `mesh.blank` are the arcs with no risk listed, for which the planner refuses a mesh. `mend` takes the
+faulty arcs out of a mesh, and returns a Mended, or a MendRefusal; `mend_table` does so for a table in bytes. The standard
+library alone is needed.
 """
 
-__version__ = "0.6.0"
+__version__ = "0.7.0"
 
 from pathlib import Path
 

@@ -98,6 +98,8 @@ def plan(mesh, request):
         raise InputFault(f"the request has a number that no call can carry: {ranges}")
     closed = records.put_closed(mesh.closed) if mesh.closed else None
     number, data = planner().plan(records.put_table(mesh.arcs), *asked, closed)
+    if number in rules.BEHIND_BLANK:  # a library before T-09 returns these for blank arcs too
+        hold_reply(not mesh.blank, f"number {number}, though no risk is listed for some arc")
     if number not in VERDICTS:
         return _refusal(mesh, request, number)
     return _pair(mesh, request, number, records.get_reply(data))
@@ -106,6 +108,8 @@ def plan(mesh, request):
 def _refusal(mesh, request, number):
     if number % rules.REASONS in rules.ARC_FAULTS:
         return _refusal_for_arc(mesh, request, number)
+    if number % rules.REASONS == rules.ARC_BLANK:
+        return _refusal_for_blank(mesh, request, number)
     if number == rules.CLOSED_FAULT:
         return _refusal_for_closed(mesh, request, number)
     if number == rules.NO_ROUTE and mesh.closed:
@@ -120,6 +124,14 @@ def _refusal_for_arc(mesh, request, number):
     named = faults.pop() if arc < len(mesh.arcs) else None
     hold_reply(named is not None and named[0] == reason and not any(faults), f"number {number}, which is not that of its arcs")
     return _refusal_at(mesh, request, number, named[1], arc, mesh.arcs[arc].line)
+
+
+def _refusal_for_blank(mesh, request, number):
+    """Of several blank arcs the lowest is named, and only where no arc has a fault."""
+    arc = number // rules.REASONS
+    fits = mesh.blank[:1] == [arc] and not any(map(rules.arc_fault, mesh.arcs))
+    hold_reply(fits, f"number {number}, which is not that of its arcs")
+    return _refusal_at(mesh, request, number, rules.blank_words(mesh.arcs[arc]), arc, mesh.arcs[arc].line)
 
 
 def _refusal_for_closed(mesh, request, number):

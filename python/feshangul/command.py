@@ -288,9 +288,10 @@ def _parser():
 
     mend = commands.add_parser(
         "mend",
-        help="take out of a mesh the arcs that the planner refuses",
+        help="take the faulty arcs out of a mesh",
         epilog=MEND_STATUSES,
-        description="Prints what the planner takes of a mesh, headed by comments that say what is lost, by line.",
+        description="Prints a mesh without its faulty arcs, headed by comments that say, by line, what is lost, and what is left "
+        "for a person: arcs with no risk listed.",
     )
     mend.add_argument("mesh", metavar="MESH", help="a mesh, docs/MESHES.md; - for standard input")
     mend.add_argument("--bytes", action="store_true", help="MESH is the bytes of a table of arcs, and so is what is printed")

@@ -1,4 +1,5 @@
-"""A mesh mended: what the proved mender keeps of it, and what is lost, by number, by line and in words."""
+"""A mesh mended: what the proved mender keeps of it, what is lost and what it leaves for a person, by number, by line and in
+words."""
 
 from __future__ import annotations
 
@@ -27,7 +28,8 @@ class Change:
 
 @dataclass(frozen=True)
 class Mended:
-    """The mesh as it came, what is left of it, and the changes by rising old number: none where it was clean."""
+    """The mesh as it came, what is left of it, and the changes by rising old number: none where it was clean. Arcs with no risk
+    listed are left as they are, for a person: `mesh.blank` tells them."""
 
     given: Mesh
     mesh: Mesh
@@ -59,7 +61,7 @@ class MendRefusal:
 
 
 def mend(mesh):
-    """Asks the proved mender for the mesh without what the planner would refuse of its arcs: a Mended or a MendRefusal."""
+    """Asks the proved mender for the mesh without its faulty arcs: a Mended or a MendRefusal."""
     return _mended(mesh, records.put_table(mesh.arcs))
 
 
@@ -120,10 +122,10 @@ def _with_kept(mesh, kept):
 
 
 def words(found):
-    """What was lost, and which numbers shifted, a line each."""
+    """What was lost, which numbers shifted, and what is left for a person, a line each."""
     if not found.changes:
-        return [f"Nothing to mend: {_all_clean(found)}."]
-    return [_summary(found), *map(_changed, found.changes), *(_shifted(*run) for run in found.shifts)]
+        return [f"Nothing to mend: {_all_clean(found)}.", *_blank(found)]
+    return [_summary(found), *map(_changed, found.changes), *(_shifted(*run) for run in found.shifts), *_blank(found)]
 
 
 def _all_clean(found):
@@ -139,14 +141,33 @@ def _summary(found):
 
 
 def _changed(change):
-    place = f"arc {change.old}" if change.line is None else f"line {change.line}, arc {change.old}"
-    return f"{place}: lost: {change.words}{'; it was closed' if change.closed else ''}"
+    return f"{_place(change.line, change.old)}: lost: {change.words}{'; it was closed' if change.closed else ''}"
+
+
+def _place(line, *arcs):
+    """Where an arc, or both arcs of a line, stood."""
+    numbers = f"arc{'' if len(arcs) == 1 else 's'} {' and '.join(map(str, arcs))}"
+    return numbers if line is None else f"line {line}, {numbers}"
 
 
 def _shifted(first_old, last_old, first_new, last_new):
     if first_old == last_old:
         return f"Arc {first_old} is now arc {first_new}."
     return f"Arcs {first_old} to {last_old} are now arcs {first_new} to {last_new}."
+
+
+def _blank(found):
+    """The kept arcs with no risk listed, by the numbers that they had, as what is lost; both directions of a line at once."""
+    blank = found.mesh.blank
+    if not blank:
+        return []
+    arcs = f"{len(blank)} arc{'' if len(blank) == 1 else 's'} with no risk listed"
+    told = [f"Left for a person: {arcs}. The planner refuses such arcs, by {rules.ARC_BLANK}, until their risks are listed."]
+    old_numbers = found.old_numbers
+    for numbers in found.mesh.by_line(blank):
+        place = _place(found.mesh.arcs[numbers[0]].line, *(old_numbers[new] for new in numbers))
+        told.append(f"{place}: no risk is listed")
+    return told
 
 
 # ---- as data ----
@@ -157,5 +178,10 @@ def data(found):
     fields = {"number": found.number, "arcs": len(found.given.arcs)}
     if not isinstance(found, Mended):
         return fields | {"words": found.words}
-    changes = [asdict(change) for change in found.changes]
-    return fields | {"kept": len(found.mesh.arcs), "changes": changes, "old_numbers": found.old_numbers}
+    old_numbers = found.old_numbers
+    return fields | {
+        "kept": len(found.mesh.arcs),
+        "changes": [asdict(change) for change in found.changes],
+        "blank": [{"old": old_numbers[new], "new": new, "line": found.mesh.arcs[new].line} for new in found.mesh.blank],
+        "old_numbers": old_numbers,
+    }

@@ -4,6 +4,7 @@ from __future__ import annotations
 
 from dataclasses import dataclass, field, replace
 from decimal import Decimal
+from itertools import groupby
 
 from . import rules
 
@@ -100,6 +101,19 @@ class Mesh:
     @property
     def open_arcs(self):
         return [arc for number, arc in enumerate(self.arcs) if number not in self.closed]
+
+    @property
+    def blank(self):
+        """The numbers of the arcs with no risk listed, rising: the planner refuses them, but for those of 0 metres, which are
+        not among these."""
+        return [number for number, arc in enumerate(self.arcs) if rules.is_blank(arc)]
+
+    def by_line(self, numbers):
+        """These numbers, rising, with both directions of a line of a named mesh together; no arc has to have them."""
+        return [tuple(some) for _, some in groupby(sorted(numbers), self._line_of)]
+
+    def _line_of(self, number):
+        return self.arcs[number].cable if self.named and number < len(self.arcs) else f"arc {number}"
 
     def site(self, node):
         """A node as people call it, with its short name."""

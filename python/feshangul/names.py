@@ -33,7 +33,8 @@ def _hold_named(numbers, kind, known, where):
 
 
 def _fault(mesh):
-    """What the planner would refuse of a mesh whose nodes and risks have names, in words."""
+    """What the planner would refuse of a mesh whose nodes and risks have names, in words. That no risk is listed can be written
+    by name, and is left to it."""
     r = mesh.requests[0]
     for number, holds in (
         (2, len(mesh.arcs) > rules.ARCS),

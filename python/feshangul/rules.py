@@ -28,6 +28,7 @@ CLOSED_FAULT = 16
 
 # The faults of an arc; returned as one of these and REASONS times the arc's number.
 ARC_FAULTS = ARC_NODE, ARC_ENDS, ARC_LENGTH = 20, 21, 22
+ARC_BLANK = 24  # returned in the same way, and no fault: the mender leaves such an arc, since only a person knows its risks
 REASONS = 256
 
 REFUSALS = {
@@ -43,6 +44,7 @@ REFUSALS = {
     CLOSED_FAULT: f"the closed set is not {CLOSED_BYTES} bytes, or marks an arc past the table",
 }
 NO_OPEN_ROUTE = "no route over open arcs from source to terminal is within reach"  # NO_ROUTE, where some arcs are closed
+BEHIND_BLANK = SETTLED, STOPPED, CLOSED_FAULT, NO_ROUTE  # only returned where no arc is blank
 
 
 def arc_fault(arc):
@@ -55,6 +57,16 @@ def arc_fault(arc):
     if arc.metres > ARC_METRES_MAX:
         return ARC_LENGTH, f"length {arc.metres:,} m is over {ARC_METRES_MAX:,}"
     return None
+
+
+def is_blank(arc):
+    """Whether an arc has metres and no risk listed. Its span does not make up for that; a patch of 0 metres may have none."""
+    return arc.metres > 0 and not arc.risks
+
+
+def blank_words(arc):
+    """What is refused of an arc that is blank."""
+    return f"{arc.metres:,} m long, and no risk is listed"
 
 
 def closed_fault(number, arcs):

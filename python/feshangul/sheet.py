@@ -1,9 +1,13 @@
 """An answer as text: the lines that the program `routes` prints, a sheet in words, and JSON."""
 
-from itertools import groupby
-
 from . import rules
 from .answer import Pair
+
+TO_DO_ON_BLANK = """\
+Ask the operator which risks touch each of them, and list these. One that is known to fail together with no other span gets a \
+risk of its own, the same in both directions. 0 m is only for a patch inside a building.
+`feshangul mend` leaves such arcs as they are.
+"""
 
 
 def lines(answer):
@@ -43,12 +47,11 @@ def _closed(mesh):
     """What is closed; both directions of a line at once. It stands on the sheet of a refusal too: it may be the reason."""
     if not mesh.closed:
         return ""
-    arcs = groupby(sorted(mesh.closed), lambda n: mesh.arcs[n].cable if mesh.named and n < len(mesh.arcs) else f"arc {n}")
-    return f"Closed, and so on no route: {'; '.join(_closing(mesh, *numbers) for _, numbers in arcs)}.\n"
+    return f"Closed, and so on no route: {'; '.join(_called(mesh, *numbers) for numbers in mesh.by_line(mesh.closed))}.\n"
 
 
-def _closing(mesh, number, *way_back):
-    """An arc that is closed, or both arcs of a line."""
+def _called(mesh, number, *way_back):
+    """An arc, or both arcs of a line, apart from any route."""
     if number >= len(mesh.arcs):
         return f"arc {number}, which is past the table"
     if way_back:
@@ -59,8 +62,23 @@ def _closing(mesh, number, *way_back):
 
 
 def _remedy(refusal):
-    """What mends a faulty arc."""
-    return "`feshangul mend` takes such arcs out.\n" if refusal.number % rules.REASONS in rules.ARC_FAULTS else ""
+    """What to do about an arc that is refused."""
+    reason = refusal.number % rules.REASONS
+    if reason in rules.ARC_FAULTS:
+        return "`feshangul mend` takes such arcs out.\n"
+    return _blank(refusal.mesh) + TO_DO_ON_BLANK if reason == rules.ARC_BLANK else ""
+
+
+def _blank(mesh):
+    """Every line with no risk listed, not that of the named arc alone: whoever asks the operator asks once."""
+    lines = mesh.by_line(mesh.blank)
+    kinds = ("span", "arc") if mesh.named else ("arc",)
+    text = f"No risk is listed for {_counted(len(lines), *kinds)}:\n"
+    for numbers in lines:
+        line = mesh.arcs[numbers[0]].line
+        place = "" if line is None else f"line {line}: "
+        text += f"  {place}{_called(mesh, *numbers)}\n"
+    return text
 
 
 def _verdict(pair):
@@ -163,6 +181,7 @@ def data(answer):
         "reach": r.reach,
         "allowance": r.allowance,
         "closed": [_arc(mesh, n) for n in sorted(mesh.closed)],
+        "blank": [_arc(mesh, n) | {"line": mesh.arcs[n].line} for n in mesh.blank],
     }
     if not isinstance(answer, Pair):
         return found | {"words": answer.words, "arc": answer.arc, "line": answer.line}

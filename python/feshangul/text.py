@@ -247,7 +247,7 @@ class _Named:
     def _read_risks(self, line):
         if line.take("-"):
             return frozenset()
-        wanted = 'risks, as CHT,PRING, or "-" for none'
+        wanted = 'risks, as CHT,PRING, or "-" for a patch of 0 m'
         if line.name_ahead() == "in" and "in" not in self.risks:  # they were left out before "in TRENCH"
             raise line.expected(wanted)
         risks = []

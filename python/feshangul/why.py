@@ -20,7 +20,8 @@ class Why:
 
 
 def least_reach(answer):
-    """The least reach that betters an answer; None where none could: the count is 0, or it was refused for a fault.
+    """The least reach that betters an answer; None where none could: the count is 0, or it was refused for another reason
+    than that there is no route.
 
     A larger reach only adds routes behind those of the ranking, so the best pair never shares more: what is better at one
     reach is better at every larger one, and halving finds the least."""

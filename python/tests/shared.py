@@ -141,9 +141,16 @@ def small_mesh(rng):
     return Mesh(arcs, (Request(source, terminal, rng.randrange(0, 10000, 500), rng.choice((1, 2, 3, 1000))),))
 
 
+SMALL_RISKS = (0, 1, 2, 31, 32, 63)
+
+
 def _small_arc(rng, nodes):
-    risks = frozenset(r for r in (0, 1, 2, 31, 32, 63) if rng.random() < 0.3)
-    return Arc(*rng.sample(range(nodes), 2), rng.randrange(0, 4000, 500), risks, rng.choice((0, 0, 1, 2, 256, 65535)))
+    """No risk is listed now and then where it is 0 metres long; elsewhere at least one is."""
+    metres = rng.randrange(0, 4000, 500)
+    risks = frozenset(r for r in SMALL_RISKS if rng.random() < 0.3)
+    if metres and not risks:
+        risks = frozenset({rng.choice(SMALL_RISKS)})
+    return Arc(*rng.sample(range(nodes), 2), metres, risks, rng.choice((0, 0, 1, 2, 256, 65535)))
 
 
 def partly_closed(rng, mesh):
@@ -158,7 +165,7 @@ def damaged(rng, mesh):
     (request,) = mesh.requests
     number, arc = rng.choice(list(enumerate(mesh.arcs)))
     of_request = ({"source": 40}, {"terminal": request.source}, {"reach": 70_000_000}, {"allowance": 0}, {"spare": (0, 9)})
-    of_arc = ({"head": 40}, {"head": arc.tail}, {"metres": 2_000_001})
+    of_arc = ({"head": 40}, {"head": arc.tail}, {"metres": 2_000_001}, {"metres": 500, "risks": frozenset()})
     change = rng.choice(of_request + of_arc)
     if change in of_request:
         return mesh.with_requests(replace(request, **change))

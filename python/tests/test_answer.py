@@ -138,16 +138,16 @@ class Replies(unittest.TestCase):
 SPANS = text.read(
     """\
 from 0 to 3 reach 100 allowance 9
-0: 0,1,1,{}
+0: 0,1,1,{5}
 1: 1,2,1,{5} span 9
-2: 2,3,1,{} span 300
+2: 2,3,1,{0} span 300
 3: 1,4,2,{5} span 9
-4: 4,3,2,{} span 8
+4: 4,3,2,{1} span 8
 """,
     "spans",
 )
 # They share risk 5 and span 9, and there is no third: shared 2, floor 2, one of them a span. A route with itself would share
-# three. Twice the 3 m of the first is less than their 8 m together, so both are tried.
+# four. Twice the 3 m of the first is less than their 8 m together, so both are tried.
 SPANS_REPLY = (
     struct.pack("<6B2x3I4xQ", 0, 2, 2, 3, 3, 1, 2, 3, 5, 1 << 5)
     + bytes([0, 1, 2]).ljust(32, b"\xff")
@@ -198,34 +198,34 @@ class Spans(unittest.TestCase):
                     continue
                 self.assertEqual(replace(found, ranked=2, floor=2), right)
 
-    def test_d2_shares_its_span_where_it_is_known(self):
-        for span, shared in ((0, 0), (1, 1), (255, 1), (256, 1), (65_535, 1)):
+    def test_d1_shares_its_span_beside_its_risk_where_it_is_known(self):
+        for span, shared in ((0, 1), (1, 2), (255, 2), (256, 2), (65_535, 2)):
             with self.subTest(span):
-                mesh = Mesh((Arc(0, 1, 1000, frozenset(), span),))
+                mesh = Mesh((Arc(0, 1, 1000, frozenset({0}), span),))
                 pair = answer.plan(mesh, Request(0, 1, 10_000, 1000))
                 self.assertEqual((pair.number, pair.shared, pair.floor, pair.ranked), (0, shared, shared, 1))
-                self.assertEqual((pair.shared_risks, len(pair.shared_spans)), (set(), shared))
+                self.assertEqual((pair.shared_risks, len(pair.shared_spans)), ({0}, shared - 1))
                 self.assertEqual(pair.uncounted_arcs, [] if span else [0])
 
     def test_a_span_crossed_twice_by_a_route_counts_once(self):
-        mesh = text.read("from 0 to 2 reach 9 allowance 9\n0: 0,1,1,{} span 7\n1: 1,2,1,{} span 7\n", "mesh")
+        mesh = text.read("from 0 to 2 reach 9 allowance 9\n0: 0,1,1,{0} span 7\n1: 1,2,1,{0} span 7\n", "mesh")
         pair = answer.plan(mesh, mesh.requests[0])
-        self.assertEqual((pair.shared, pair.floor, pair.common_spans), (1, 1, [7]))
+        self.assertEqual((pair.shared, pair.floor, pair.common_spans), (2, 2, [7]))
 
     def test_the_two_directions_of_a_span_are_one(self):
-        # The main goes 0 1 2 3 and the standby 0 2 1 3, through span 7 one way and the other. They share no risk; the two
-        # shorter routes, 0 1 3 and 0 2 3, have all four, and so share at least two with every other.
+        # The main goes 0 1 2 3 and the standby 0 2 1 3, through span 7 one way and the other. They share its risk and no
+        # other; the two shorter routes, 0 1 3 and 0 2 3, have all four, and so share two and a span with every other.
         arcs = "0: 0,1,10,{0,1} span 1\n1: 0,2,10,{2,3} span 2\n2: 1,3,10,{2,3} span 3\n3: 2,3,10,{0,1} span 4\n"
-        mesh = text.read(f"from 0 to 3 reach 99 allowance 9\n{arcs}4: 1,2,1,{{}} span 7\n5: 2,1,1,{{}} span 7\n", "mesh")
+        mesh = text.read(f"from 0 to 3 reach 99 allowance 9\n{arcs}4: 1,2,1,{{9}} span 7\n5: 2,1,1,{{9}} span 7\n", "mesh")
         pair = answer.plan(mesh, mesh.requests[0])
         self.assertEqual((pair.main.arcs, pair.standby.arcs, pair.ranked), ((0, 4, 3), (1, 5, 2), 4))
-        self.assertEqual((pair.shared, pair.floor, pair.common_spans, pair.spans_known), (1, 0, [7], True))
+        self.assertEqual((pair.shared, pair.floor, pair.common_spans, pair.spans_known), (2, 0, [7], True))
 
     def test_spans_are_told_in_the_mains_order(self):
-        arcs = "0: 0,1,1,{} span 9\n1: 1,2,1,{} span 3\n2: 2,3,1,{}\n3: 3,4,1,{} span 9\n4: 4,5,1,{} span 7\n"
+        arcs = "0: 0,1,1,{0} span 9\n1: 1,2,1,{0} span 3\n2: 2,3,1,{0}\n3: 3,4,1,{0} span 9\n4: 4,5,1,{0} span 7\n"
         mesh = text.read(f"from 0 to 5 reach 9 allowance 9\n{arcs}", "mesh")
         pair = answer.plan(mesh, mesh.requests[0])
-        self.assertEqual((pair.shared, pair.common_spans, pair.uncounted_arcs), (3, [9, 3, 7], [2]))
+        self.assertEqual((pair.shared, pair.common_spans, pair.uncounted_arcs), (4, [9, 3, 7], [2]))
 
     def test_the_most_that_can_be_shared_is_95(self):
         arcs = tuple(Arc(n, n + 1, 1, frozenset(range(64)), n + 1) for n in range(31))
@@ -330,7 +330,7 @@ class Refusals(unittest.TestCase):
         self.assert_refused(21, "arc 0: both ends are node 3", mesh, Request(0, 1))
 
     def test_a_number_that_is_not_known_is_a_refusal(self):
-        for number in (9, 11, 13, 23, 24, 266, 279, 4_294_967_295):  # 9, 11 and 23 have ended; 266 is 10 with an arc
+        for number in (9, 11, 13, 23, 25, 266, 279, 4_294_967_295):  # 9, 11 and 23 have ended; 266 is 10 with an arc
             with self.subTest(number), planner_that_replies(number):
                 self.assert_refused(number, "a number that this version does not know", A, A1)
 

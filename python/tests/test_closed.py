@@ -645,7 +645,7 @@ Refused, number 16: arc 9, line 7: closed, but the table has only arcs 0 to 4.
                 self.assert_closed(told, f"{SITES}{LINES}{closed}request A D\n")
 
     def test_only_open_arcs_have_to_have_a_known_span(self):
-        arcs = "0: 0,1,1,{0,1} span 1\n1: 0,1,1,{1,2} span 2\n2: 0,1,1,{0,2} span 3\n3: 0,1,1,{}\n"
+        arcs = "0: 0,1,1,{0,1} span 1\n1: 0,1,1,{1,2} span 2\n2: 0,1,1,{0,2} span 3\n3: 0,1,1,{3}\n"
         request = "from 0 to 1 reach 9 allowance 9\n"
         for closed, span in (("", "known span"), ("closed 3\n", "span")):
             found = sheet.words(self.planned(request + arcs + closed)).splitlines()

@@ -176,7 +176,7 @@ class HelpAndVersion(CommandTest):
                     self.assertIn(word, help_text)
 
     def test_version_is_that_of_the_header(self):
-        self.assertEqual(run("--version"), Ran(0, b"feshangul 0.6.0\n", b""))
+        self.assertEqual(run("--version"), Ran(0, b"feshangul 0.7.0\n", b""))
         header = (RELEASE / "feshangul.h").read_text(encoding="utf-8")
         self.assertIn(f'#define FESHANGUL_VERSION "{feshangul.__version__}"\n', header)
 
@@ -318,6 +318,7 @@ A_JSON = {
     "reach": 10000,
     "allowance": 1000,
     "closed": [],
+    "blank": [],
     "shared": {"count": 0, "span_count": 0, "risks": [], "spans": [], "sites": [], "uncounted_arcs": []},
     "floor": 0,
     "ranked": 2,
@@ -354,13 +355,13 @@ risk R "Rhine"
 risk S
 trench LIM "Limmat"
 span B A 1.5km S,R "Süd"
-arc B C 1 -
-arc C D 2 - in LIM
+arc B C 1 S
+arc C D 2 R in LIM
 request A D reach 9km
 """
 
 D = {"number": 3, "name": "D", "title": None}
-UNKNOWN = {"number": 2, "name": "B-C", "title": None, "span": None, "from": B, "to": C, "metres": 1, "risks": []}
+UNKNOWN = {"number": 2, "name": "B-C", "title": None, "span": None, "from": B, "to": C, "metres": 1, "risks": [S]}
 
 ONE_ROUTE = {
     "metres": 1503,
@@ -369,7 +370,7 @@ ONE_ROUTE = {
     "arcs": [
         {"number": 1, "name": "B-A", "title": "Süd", "span": SUD, "from": ZURICH, "to": B, "metres": 1500, "risks": [RHINE, S]},
         UNKNOWN,
-        {"number": 3, "name": "C-D", "title": None, "span": LIMMAT, "from": C, "to": D, "metres": 2, "risks": []},
+        {"number": 3, "name": "C-D", "title": None, "span": LIMMAT, "from": C, "to": D, "metres": 2, "risks": [RHINE]},
     ],
 }
 
@@ -381,6 +382,7 @@ ONE_WAY_JSON = {
     "reach": 9000,
     "allowance": 1000,
     "closed": [],
+    "blank": [],
     "shared": {
         "count": 4,
         "span_count": 2,
@@ -412,23 +414,23 @@ class Json(CommandTest):
         self.assertEqual(self.fields(self.file(ONE_WAY)), [ONE_WAY_JSON])
 
     def test_a_span_of_a_numbered_mesh_has_its_number(self):
-        (fields,) = self.fields(self.file("from 0 to 2 reach 9 allowance 9\n0: 0,1,1,{4} span 65535\n1: 1,2,1,{}\n"))
+        (fields,) = self.fields(self.file("from 0 to 2 reach 9 allowance 9\n0: 0,1,1,{4} span 65535\n1: 1,2,0,{}\n"))
         shared = {"count": 2, "span_count": 1, "risks": [node(4)], "spans": [node(65_535)], "sites": [node(1)]}
-        self.assertEqual(fields["shared"], shared | {"uncounted_arcs": [arc(1, 1, 2, 1, [])]})
-        self.assertEqual(fields["main"]["arcs"], [arc(0, 0, 1, 1, [4], node(65_535)), arc(1, 1, 2, 1, [])])
+        self.assertEqual(fields["shared"], shared | {"uncounted_arcs": [arc(1, 1, 2, 0, [])]})
+        self.assertEqual(fields["main"]["arcs"], [arc(0, 0, 1, 1, [4], node(65_535)), arc(1, 1, 2, 0, [])])
         self.assertEqual(fields["floor"], 2)
 
     def test_parallel_lines_without_a_title_are_told_apart_by_name(self):
-        (fields,) = self.fields(self.file("site A\nsite B\nspan A B 1 -\nspan B A 2 -\nrequest A B\n"))
+        (fields,) = self.fields(self.file("site A\nsite B\nrisk R\nrisk S\nspan A B 1 R\nspan B A 2 S\nrequest A B\n"))
         spans = [{"number": 1, "name": "A-B no. 1", "title": None}, {"number": 2, "name": "B-A no. 2", "title": None}]
         self.assertEqual([fields[role]["arcs"][0]["span"] for role in ("main", "standby")], spans)
 
     def test_a_refusal_has_words_and_where_it_is_one_arcs_fault_its_place(self):
-        faulty = self.file("from 0 to 1 reach 10 allowance 1\n0: 0,1,5,{}\n\n1: 7,7,5,{}\n")
-        asked = {"from": node(0), "to": node(1), "reach": 10, "allowance": 1, "closed": []}
+        faulty = self.file("from 0 to 1 reach 10 allowance 1\n0: 0,1,5,{0}\n\n1: 7,7,5,{0}\n")
+        asked = {"from": node(0), "to": node(1), "reach": 10, "allowance": 1, "closed": [], "blank": []}
         words = "arc 1, line 4: both ends are node 7"
         self.assertEqual(self.fields(faulty), [{"verdict": "refused", "number": 277, **asked, "words": words, "arc": 1, "line": 4}])
-        asked = {"from": node(0), "to": node(3), "reach": 2999, "allowance": 1000, "closed": []}
+        asked = {"from": node(0), "to": node(3), "reach": 2999, "allowance": 1000, "closed": [], "blank": []}
         words = "no route from source to terminal is within reach"
         self.assertEqual(
             self.fields(A, "--reach", "2999"),

@@ -6,7 +6,7 @@ import unittest
 
 from feshangul import text
 
-from .shared import EXAMPLES, REPOSITORY, call, example
+from .shared import EXAMPLES, REPOSITORY, Ran, call, example
 
 
 def blocks(name, begins):
@@ -54,6 +54,19 @@ class Documents(unittest.TestCase):
         ran = call("plan", "-", stdin=closed.encode())
         self.assertEqual((ran.status, ran.output.decode()), (3, printed))
 
+    def test_the_mesh_with_blanks_in_meshes_prints_what_stands_below_it_and_is_mended_as_it_tells(self):
+        _, _, _, _, _, blank, printed, *_ = blocks("docs/MESHES.md", "from 0 to 3")
+        ran = call("plan", "-", stdin=blank.encode())
+        self.assertEqual((ran.status, ran.output.decode()), (3, printed))
+        _, _, head, *_ = blocks("docs/MESHES.md", "from 0 to 2")
+        self.assertEqual(call("mend", "-", stdin=blank.encode()), Ran(0, (head + blank).encode(), b""))
+
+    def test_the_mesh_worked_through_in_meshes_with_blanks_is_refused_as_told(self):
+        mesh, _, _, _, refused, *_ = blocks("docs/MESHES.md", "site LON")
+        blank = mesh.replace("410.6km CHT", "410.6km -").replace("312km BEL", "312km -")
+        ran = call("plan", "-", stdin=blank.encode())
+        self.assertEqual((ran.status, ran.output.decode().count(refused)), (3, 2))
+
     def test_the_mesh_worked_through_in_meshes_with_a_span_closed_prints_what_is_told_of_it(self):
         mesh, _, closed, refused, *_ = blocks("docs/MESHES.md", "site LON")
         for above in ("trench KENT", "request LON"):  # wherever below the sites
@@ -65,7 +78,7 @@ class Documents(unittest.TestCase):
             self.assertTrue(to_london.endswith(refused))
 
     def test_the_mesh_mended_in_meshes_becomes_what_stands_below_it(self):
-        faulty, printed, command, *_ = blocks("docs/MESHES.md", "from 0 to 2")
+        faulty, printed, _, command, *_ = blocks("docs/MESHES.md", "from 0 to 2")
         ran = call("mend", "-", stdin=faulty.encode())
         self.assertEqual((ran.status, ran.output.decode()), (1, printed))
         self.assertEqual(call("plan", "-", stdin=printed.encode()).status, 0)
@@ -73,9 +86,10 @@ class Documents(unittest.TestCase):
 
     def test_every_field_of_a_mended_mesh_in_json_stands_in_meshes(self):
         faulty, *_ = blocks("docs/MESHES.md", "from 0 to 2")
+        faulty = faulty.replace("5: 2,0,7000,{2}", "5: 2,0,7000,{}")
         fields = json.loads(call("mend", "--json", "-", stdin=faulty.encode()).output)
         table = (REPOSITORY / "docs/MESHES.md").read_text(encoding="utf-8").split("`mend --json` prints")[1]
-        for field in (*fields, *fields["changes"][0], "table"):
+        for field in (*fields, *fields["changes"][0], *fields["blank"][0], "table"):
             with self.subTest(field):
                 self.assertIn(f"`{field}`", table)
 
@@ -104,9 +118,9 @@ class Documents(unittest.TestCase):
         f = example("F.txt")
         for lines, mesh, words in (
             ("settled 0 0 3\nmain 1 0\nstandby 4 2 3\n", f, ()),
-            ("settled 1 1 1\nmain 1 0\nstandby 1 0\n", f, ("--reach", "3999")),
-            ("settled 0 0 1\nmain 1 0\nstandby 1 0\n", re.sub(" span [78]", "", f), ()),
-            ("settled 0 0 2\nmain 1 0\nstandby 2 1\n", f.replace("2000,{} span 7", "2000,{} span 9"), ()),
+            ("settled 1 1 2\nmain 1 0\nstandby 2 1\n", f, ("--reach", "3999")),
+            ("settled 0 0 2\nmain 1 0\nstandby 2 1\n", re.sub(" span [78]\n", "\n", f), ()),
+            ("settled 0 0 2\nmain 1 0\nstandby 2 1\n", f.replace("2000,{2} span 7", "2000,{2} span 9"), ()),
         ):
             with self.subTest(lines):
                 self.assertTrue(call("plan", "-", *words, stdin=mesh.encode()).output.decode().startswith(lines + "\n"))

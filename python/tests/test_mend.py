@@ -361,7 +361,7 @@ class Closed(unittest.TestCase):
         self.assertGreater(min(seen.values()), 50)
 
     def test_a_number_that_no_arc_has_is_left_for_the_planner_to_refuse(self):
-        mesh = text.read(numbered("7,7,5,{}", "0,1,5,{}", "0,1,6,{}") + "closed 3,2,127\n", "mesh")
+        mesh = text.read(numbered("7,7,5,{0}", "0,1,5,{0}", "0,1,6,{0}") + "closed 3,2,127\n", "mesh")
         found = mending.mend(mesh)
         self.assertEqual((found.mesh.closed, found.mesh.closed_lines), ({1, 3, 127}, {1: 5, 3: 5, 127: 5}))
         refused = feshangul.plan(found.mesh, found.mesh.requests[0])
@@ -375,7 +375,7 @@ class Closed(unittest.TestCase):
         self.assertTrue(text.write(found.mesh).endswith('arc B C 5m - in T "third"\nclosed in T\n'))
 
     def test_the_words_tell_a_closed_arc_that_is_lost(self):
-        mesh = text.read(numbered("0,40,5,{}", "0,1,5,{}", "3,3,5,{}") + "closed 0,1\n", "mesh")
+        mesh = text.read(numbered("0,40,5,{0}", "0,1,5,{0}", "3,3,5,{0}") + "closed 0,1\n", "mesh")
         self.assertEqual(
             mending.words(mending.mend(mesh)),
             [
@@ -387,8 +387,8 @@ class Closed(unittest.TestCase):
         )
 
     def test_the_command_prints_what_is_closed_with_its_new_number(self):
-        faulty = numbered("0,1,5,{}", "7,7,5,{}", "0,1,6,{}", "0,1,7,{}") + "closed 3,1\n"
-        clean = numbered("0,1,5,{}", "0,1,6,{}", "0,1,7,{}") + "closed 2\n"
+        faulty = numbered("0,1,5,{0}", "7,7,5,{0}", "0,1,6,{0}", "0,1,7,{0}") + "closed 3,1\n"
+        clean = numbered("0,1,5,{0}", "0,1,6,{0}", "0,1,7,{0}") + "closed 2\n"
         told = "# Mended: of 4 arcs 1 is lost.\n# line 3, arc 1: lost: both ends are node 7; it was closed\n"
         ran = call("mend", "-", stdin=faulty.encode())
         self.assertEqual(ran, Ran(1, f"{told}# Arcs 2 to 3 are now arcs 1 to 2.\n{clean}".encode(), b""))
@@ -626,7 +626,8 @@ class Words(unittest.TestCase):
                 self.assertEqual(mending.words(found)[-1], f"arc {len(arcs)}: lost: torn off after 4 of its 16 bytes")
 
     def test_each_change_and_each_run_is_a_line(self):
-        arcs = ("0,1,5,{}", "40,1,5,{}", "0,1,5,{}", "0,1,5,{} span 7", "3,3,5,{}", "0,1,2000001,{}", "0,1,5,{}")
+        sound = "0,1,5,{0}"
+        arcs = (sound, "40,1,5,{0}", sound, "0,1,5,{0} span 7", "3,3,5,{0}", "0,1,2000001,{0}", sound)
         self.assert_words(
             [
                 "Mended: of 7 arcs 3 are lost.",
@@ -688,6 +689,7 @@ class RandomMeshes(unittest.TestCase):
             with self.subTest(number):
                 self.assertEqual((ran.status, ran.errors), (1 if listed else 0, b""))
                 self.assert_comments(ran.output.decode(), where, listed)
+                self.assert_blanks(ran.output.decode(), where, mesh, listed)
                 self.assertEqual(records.put_table(text.read(ran.output.decode(), "mended").arcs), table)
                 again = call("mend", "-", stdin=ran.output)
                 self.assertEqual(again.status, 0)
@@ -698,7 +700,7 @@ class RandomMeshes(unittest.TestCase):
         comments = [line for line in output.splitlines() if line.startswith("#")]
         self.assertTrue(output.startswith("".join(f"{comment}\n" for comment in comments) + "from "))
         reasons = {old: reason for old, reason, _ in struct.iter_unpack("<HBxH10x", listed)}
-        told = [re.match("# line ([0-9]+), arc ([0-9]+)", comment) for comment in comments]
+        told = [re.match("# line ([0-9]+), arc ([0-9]+): lost: ", comment) for comment in comments]
         self.assertEqual([(int(t[1]), int(t[2])) for t in told if t], [(where[old], old) for old in reasons])
         new_numbers, kept = [], 0
         for old in range(len(where)):
@@ -706,15 +708,23 @@ class RandomMeshes(unittest.TestCase):
             kept += old not in reasons
         self.assertEqual(followed(comments, len(where)), new_numbers)
 
+    def assert_blanks(self, output, where, mesh, listed):
+        lost = {old for old, _, _ in struct.iter_unpack("<HBxH10x", listed)}
+        blank = [old for old, arc in enumerate(mesh.arcs) if arc.metres and not arc.risks and old not in lost]
+        told = re.findall("^# line ([0-9]+), arc ([0-9]+): no risk is listed$", output, re.MULTILINE)
+        self.assertEqual([(int(line), int(old)) for line, old in told], [(where[old], old) for old in blank])
+        counted = re.findall("^# Left for a person: ([0-9]+) arc", output, re.MULTILINE)
+        self.assertEqual(counted, [str(len(blank))] if blank else [])
+
 
 # ---- the command ----
 
-FAULTY = numbered("0,1,5,{}", "7,7,5,{}", "0,1,5,{3} span 9")
+FAULTY = numbered("0,1,5,{0}", "7,7,5,{}", "0,1,5,{3} span 9")
 MENDED = f"""\
 # Mended: of 3 arcs 1 is lost.
 # line 3, arc 1: lost: both ends are node 7
 # Arc 2 is now arc 1.
-{numbered("0,1,5,{}", "0,1,5,{3} span 9")}""".encode()
+{numbered("0,1,5,{0}", "0,1,5,{3} span 9")}""".encode()
 TOLD = b"""\
 Mended: of 7 arcs 3 are lost; a torn end is lost.
 arc 1: lost: head node 40 is over 31
@@ -751,7 +761,7 @@ class Command(CommandTest):
             run("mend", EXAMPLES / "europe.txt", settings={"PYTHONIOENCODING": "ascii"}),
             Ran(0, f"# Nothing to mend: all 22 arcs are clean.\n{bare}".encode(), b""),
         )
-        without_request = 'site A "Zürich"\nsite B\nspan A B 1km -\n'
+        without_request = 'site A "Zürich"\nsite B\nrisk R\nspan A B 1km R\n'
         self.assertEqual(
             call("mend", "-", stdin=without_request.encode()),
             Ran(0, f"# Nothing to mend: all 2 arcs are clean.\n{without_request}".encode(), b""),
@@ -869,15 +879,16 @@ class Json(CommandTest):
                 "changes": [
                     {"old": 1, "reason": 2, "words": "both ends are node 7", "new": None, "line": 3, "closed": False},
                 ],
+                "blank": [],
                 "old_numbers": [0, 2],
-                "mesh": numbered("0,1,5,{}", "0,1,5,{3} span 9"),
+                "mesh": numbered("0,1,5,{0}", "0,1,5,{3} span 9"),
             },
         )
 
     def test_a_clean_mesh_has_no_changes(self):
         bare = without_comments(example("A.txt"))
-        clean = {"number": 0, "arcs": 5, "kept": 5, "changes": [], "old_numbers": [0, 1, 2, 3, 4], "mesh": bare}
-        self.assertEqual(self.fields(EXAMPLES / "A.txt"), clean)
+        clean = {"number": 0, "arcs": 5, "kept": 5, "changes": [], "blank": [], "old_numbers": [0, 1, 2, 3, 4]}
+        self.assertEqual(self.fields(EXAMPLES / "A.txt"), clean | {"mesh": bare})
 
     def test_a_table_in_bytes_is_told_in_hexadecimal(self):
         fields = self.fields("--bytes", "-", stdin=DATA)

@@ -86,11 +86,15 @@ site B "Bonn"
 site C
 site D
 risk R
-span A B 5km -
-span B A 6km -
+risk S
+risk T
+risk U
+risk V
+span A B 5km S
+span B A 6km T
 span B C 1km R "Rhine bridge"
-span D C 2km -
-span C D 3km - "Harbour"
+span D C 2km U
+span C D 3km V "Harbour"
 request D A reach 20km
 """
 
@@ -100,34 +104,39 @@ TRENCHES = """\
 site A
 site B "Bonn"
 site C
+risk N
+risk S
+risk H
+risk R
 trench AHR "Ahr valley"
 trench HILLS
-span A B 70km - in AHR
-span A B 72km - in AHR
-span A C 60km - in HILLS
-span C B 60km -
+span A B 70km N in AHR
+span A B 72km S in AHR
+span A C 60km H in HILLS
+span C B 60km R
 request A B reach 500km
 """
 
-# After the first arc three routes, of which any two share one risk more; what stands in the braces is a risk of the first arc.
+# After the first arc, a patch of 0 m, three routes, of which any two share one risk more; what stands in the braces is a risk of
+# the patch, or nothing.
 FAN = """\
 from 0 to 2 reach 100 allowance 9
-0: 0,1,1,{{{}}} span 5
+0: 0,1,0,{{{}}} span 5
 1: 1,2,10,{{0,1}} span 11
 2: 1,2,20,{{1,2}} span 12
 3: 1,2,30,{{0,2}} span 13
 """
 
-# After the first arc three routes, of which any two cross one span more.
+# After the first arc, a patch with no risk, three routes, of which any two cross one span more.
 WHEEL = """\
 from 0 to 5 reach 100 allowance 9
-0: 0,1,1,{} span 5
-1: 1,2,1,{} span 1
-2: 2,5,1,{} span 2
-3: 1,3,2,{} span 2
-4: 3,5,2,{} span 3
-5: 1,4,3,{} span 3
-6: 4,5,3,{} span 1
+0: 0,1,0,{} span 5
+1: 1,2,1,{1} span 1
+2: 2,5,1,{2} span 2
+3: 1,3,2,{3} span 2
+4: 3,5,2,{4} span 3
+5: 1,4,3,{5} span 3
+6: 4,5,3,{6} span 1
 """
 
 
@@ -321,13 +330,13 @@ Shared by both routes: 1 risk: R; 1 span: Rhine bridge (B-C).
 On every route within this reach, and so in every pair: 1 risk: R; 1 span: Rhine bridge (B-C).
 Both routes pass 2 sites (C, Bonn (B)).
 Main: 8,000 m, 8 km: D, C, Bonn, A.
-  D to C: 2,000 m by D-C no. 1, arc 6; no risk
+  D to C: 2,000 m by D-C no. 1, arc 6; U
   C to B: 1,000 m by Rhine bridge (B-C), arc 5; R
-  B to A: 5,000 m by A-B no. 1, arc 1; no risk
+  B to A: 5,000 m by A-B no. 1, arc 1; S
 Standby: 10,000 m, 10 km: D, C, Bonn, A.
-  D to C: 3,000 m by Harbour (C-D), arc 9; no risk
+  D to C: 3,000 m by Harbour (C-D), arc 9; V
   C to B: 1,000 m by Rhine bridge (B-C), arc 5; R
-  B to A: 6,000 m by B-A no. 2, arc 2; no risk
+  B to A: 6,000 m by B-A no. 2, arc 2; T
 Together 18,000 m.
 """,
             PARALLEL,
@@ -335,7 +344,7 @@ Together 18,000 m.
 
     def test_several_spans_are_told_in_the_mains_order(self):
         found = sheet.words(planned(PARALLEL, reach=8000)).splitlines()
-        shared = "1 risk: R; 3 spans: D-C no. 1, Rhine bridge (B-C), A-B no. 1."
+        shared = "3 risks: R, S, U; 3 spans: D-C no. 1, Rhine bridge (B-C), A-B no. 1."
         self.assertEqual(found[2], f"Shared by both routes: {shared}")
         self.assertEqual(found[3], f"On every route within this reach, and so in every pair: {shared}")
 
@@ -349,15 +358,15 @@ Settled after 4 mains: every route within this reach has been tried as main. No 
 Shared by both routes: no risk; 1 known span: Patch (U-V).
 On every route within this reach: no risk and no known span.
 Both routes pass 2 sites (U, V).
-Main: 21 m, 1 km: S, U, V, T.
+Main: 20 m, 1 km: S, U, V, T.
   S to U: 10 m by S-U, arc 0; P, Q
-  U to V: 1 m by Patch (U-V), arc 4; no risk
+  U to V: 0 m by Patch (U-V), arc 4; no risk
   V to T: 10 m by V-T, arc 3; P, Q
-Standby: 21 m, 1 km: S, V, U, T.
+Standby: 20 m, 1 km: S, V, U, T.
   S to V: 10 m by S-V, arc 1; X, Y
-  V to U: 1 m by Patch (U-V), arc 5; no risk
+  V to U: 0 m by Patch (U-V), arc 5; no risk
   U to T: 10 m by U-T, arc 2; X, Y
-Together 42 m.
+Together 40 m.
 """,
             """\
 site S
@@ -372,7 +381,7 @@ arc S U 10 P,Q
 arc S V 10 X,Y
 arc U T 10 X,Y
 arc V T 10 P,Q
-span U V 1 - "Patch"
+span U V 0 - "Patch"
 request S T
 """,
         )
@@ -389,49 +398,51 @@ Shared by both routes: no risk and no span.
 On every route within this reach: no risk and no span.
 Between the ends they pass no common site.
 Main: 70,000 m, 70 km: A, Bonn.
-  A to B: 70,000 m by A-B no. 1 in Ahr valley (AHR), arc 0; no risk
+  A to B: 70,000 m by A-B no. 1 in Ahr valley (AHR), arc 0; N
 Standby: 120,000 m, 120 km: A, C, Bonn.
-  A to C: 60,000 m by A-C in HILLS, arc 4; no risk
-  C to B: 60,000 m by C-B, arc 6; no risk
+  A to C: 60,000 m by A-C in HILLS, arc 4; H
+  C to B: 60,000 m by C-B, arc 6; R
 Together 190,000 m.
 """,
             TRENCHES,
         )
 
     def test_a_trench_is_shared_by_name(self):
-        # Within 119 km there are the two cables of the trench alone. One of them twice shares as few as both do, at less length.
+        # Within 119 km there are the two cables of the trench alone. One of them twice would share its risk too. Twice the first
+        # is less than the 142 km of both, so that both are tried.
         self.assert_sheet(
             """\
 From A to Bonn (B), each route within 119,000 m.
-Settled after 1 main: no pair within this reach shares fewer, and none that shares as few is shorter. \
+Settled after 2 mains: no pair within this reach shares fewer, and none that shares as few is shorter. \
 No larger allowance changes this pair.
 Shared by both routes: no risk; 1 span: Ahr valley (AHR).
 On every route within this reach, and so in every pair: no risk; 1 span: Ahr valley (AHR).
 Between the ends they pass no common site.
 Main: 70,000 m, 70 km: A, Bonn.
-  A to B: 70,000 m by A-B no. 1 in Ahr valley (AHR), arc 0; no risk
-Standby: the same route once more; it fails with the main.
-Together 140,000 m.
+  A to B: 70,000 m by A-B no. 1 in Ahr valley (AHR), arc 0; N
+Standby: 72,000 m, 72 km: A, Bonn.
+  A to B: 72,000 m by A-B no. 2 in Ahr valley (AHR), arc 2; S
+Together 142,000 m.
 """,
             TRENCHES,
             reach=119_000,
         )
 
-    def test_d2_shares_its_span(self):
+    def test_d1_shares_its_span_beside_its_risk(self):
         self.assert_sheet(
             """\
 From node 0 to node 1, each route within 10,000 m.
 Settled after 1 main: no pair within this reach shares fewer, and none that shares as few is shorter. \
 No larger allowance changes this pair.
-Shared by both routes: no risk; 1 span: span 7.
-On every route within this reach, and so in every pair: no risk; 1 span: span 7.
+Shared by both routes: 1 risk: risk 0; 1 span: span 7.
+On every route within this reach, and so in every pair: 1 risk: risk 0; 1 span: span 7.
 Between the ends they pass no common site.
 Main: 1,000 m, 1 km: node 0, node 1.
-  node 0 to node 1: 1,000 m by arc 0 in span 7; no risk
+  node 0 to node 1: 1,000 m by arc 0 in span 7; risk 0
 Standby: the same route once more; it fails with the main.
 Together 2,000 m.
 """,
-            "from 0 to 1 reach 10000 allowance 1000\n0: 0,1,1000,{} span 7\n",
+            "from 0 to 1 reach 10000 allowance 1000\n0: 0,1,1000,{0} span 7\n",
         )
 
     def test_what_is_shared_and_on_every_route_is_told_by_kind_where_the_reply_tells_it(self):
@@ -447,7 +458,7 @@ Together 2,000 m.
 
     def test_only_the_arcs_that_are_asked_about_have_to_have_a_known_span(self):
         # The span of the arc back is not known, and it is on no route: of the pair all is known, of every route not all.
-        arcs = "0: 0,1,1,{0,1} span 1\n1: 0,1,1,{1,2} span 2\n2: 0,1,1,{0,2} span 3\n3: 1,0,1,{}\n"
+        arcs = "0: 0,1,1,{0,1} span 1\n1: 0,1,1,{1,2} span 2\n2: 0,1,1,{0,2} span 3\n3: 1,0,1,{3}\n"
         found = sheet.words(planned("from 0 to 1 reach 9 allowance 9\n" + arcs)).splitlines()
         self.assertEqual(found[2], "Shared by both routes: 1 risk: risk 1; no span.")
         self.assertEqual(found[3], "On every route within this reach: no risk and no known span.")

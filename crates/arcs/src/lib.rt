@@ -1,4 +1,4 @@
-// The arcs of a span table: read from their sixteen bytes and looked over for faults.
+// The arcs of a span table: read from their sixteen bytes, and looked over for faults and for blanks.
 use problem::ARC_BYTES;
 use problem::Arc;
 use problem::Fault;
@@ -8,7 +8,10 @@ ghost use mathlib.Core.Path.{_≡_};
 ghost use Prim.Native.Nat.{_+_, _*_, _≤_};
 ghost use lib.ListN.{length};
 ghost use Rattle.problem.specs.Table.{mostTableBytes, arcOf, arcsOf, faultOf, arcsNumber};
+ghost use Rattle.problem.specs.Blanks.{isBlank, blanksNumber};
 ghost use Rattle.problem.specs.Routes.{arcAt};
+
+const BLANK: u32 = 24;
 
 // The arc that sixteen bytes say.
 pub fn read_arc(bytes: &[u8]) -> Arc
@@ -68,6 +71,32 @@ pub fn refusal(table: &[u8]) -> u32
             return m + 256 * (k as u32);
         }
         k = k + 1;
+    }
+    0
+}
+
+// An arc of more than 0 metres for which no risk is listed (T-09). That is no fault of the arc: the mender, which asks for faults alone, leaves it.
+pub fn is_blank(a: Arc) -> bool
+    ensures { λ r. ⌜ r ≡ isBlank a ⌝ }
+{
+    if a.metres == 0 {
+        return false;
+    }
+    a.risks == 0
+}
+
+// The number for the lowest such arc of the table: 24, and 256 times the arc's number. 0 where there is none.
+pub fn blank_refusal(table: &[u8]) -> u32
+    requires { ⌜ length (now table) ≤ mostTableBytes ⌝ }
+    ensures { λ r. ⌜ r ≡ blanksNumber (arcsOf (now (table .entry))) ⌝ }
+{
+    let count = table.len() / ARC_BYTES;
+    let mut i: usize = 0;
+    while i < count {
+        if is_blank(arc_at(table, i)) {
+            return BLANK + 256 * (i as u32);
+        }
+        i = i + 1;
     }
     0
 }

@@ -1,4 +1,4 @@
-// The checks of a call before anything is planned: numbers 2 to 8, those of a faulty arc, and 16, in their order (the lists of checks of the problem's specs/Reply.antt).
+// The checks of a call before anything is planned: numbers 2 to 8, those of a faulty arc, that of a blank one, and 16, in their order (the lists of checks of the problem's specs/Reply.antt).
 use problem::ARC_BYTES;
 use problem::CLOSED_SIZE;
 use problem::MOST_ALLOWANCE;
@@ -53,7 +53,11 @@ pub fn refusal(table: &[u8], size: usize, q: Request) -> u32
     if of_request != 0 {
         return of_request;
     }
-    arcs::refusal(table)
+    let of_arcs = arcs::refusal(table);
+    if of_arcs != 0 {
+        return of_arcs;
+    }
+    arcs::blank_refusal(table)
 }
 
 // The same of a call that brings a closed set: that is looked at where none of the others applies.

@@ -8,9 +8,9 @@ use Rattle.problem.specs.declared.Arc.{Arc}
 use Rattle.problem.specs.declared.Request.{Request}
 use Rattle.problem.specs.Table.{replySize}
 use Rattle.problem.specs.Spans.{markedArcs}
-use Rattle.problem.specs.Closed.{closedIn, noneClosed, shutIn}
+use Rattle.problem.specs.Closed.{closedIn, noneClosed, shutIn, plannedArcs}
 use Rattle.problem.specs.Routes.{Route, ranking}
-use Rattle.problem.specs.Reply.{meshOver, Answer, refuse, after, replyOf, firstNumber, plainChecks, refusal, Passed, planned, answerUnless, answerAround}
+use Rattle.problem.specs.Reply.{meshOver, Answer, refuse, after, replyOf, firstNumber, plainChecks, refusal, Passed, planned, plannedUnless, answerAround}
 use Rattle.problem.specs.Calls.{routesOf, CalledAround}
 use Rattle.problem.proofs.ClosedLaws.{planned-unclosed}
 use Rattle.problem.proofs.ReplyLaws.{passed-refusal}
@@ -31,13 +31,13 @@ untouched {before = before} e = record { number-is = ap (λ (x : Answer). x .num
 
 -- by a check
 pub refused : {table closed : List ℕ} {q : Request} {before : List ℕ} (n : ℕ) → n ≡ refusal table closed q (length before) → (n ≡ 0 → ⊥) → CalledAround table closed q before n before
-unfolding answerAround answerUnless
+unfolding answerAround plannedUnless
 refused zero e h = absurd (h refl)
-refused {table} {closed} {q} (suc n) e h = untouched (ap (λ (x : ℕ). answerUnless x table closed q) (sym e))
+refused {table} {closed} {q} (suc n) e h = untouched (ap (λ (x : ℕ). plannedUnless x (plannedArcs table closed) q) (sym e))
 
 -- by the lack of a route
 no-route : {table closed : List ℕ} {q : Request} {before : List ℕ} → Passed table closed q (length before) → routesOf table closed q ≡ [] → CalledAround table closed q before 10 before
-unfolding answerAround answerUnless planned
+unfolding answerAround plannedUnless planned
 no-route passed e = untouched (rw (passed-refusal passed, e))
 
 -- ---- what planning has made

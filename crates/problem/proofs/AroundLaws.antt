@@ -17,11 +17,11 @@ use Rattle.problem.specs.declared.Exposure.{Exposure}
 use Rattle.problem.specs.declared.Request.{Request}
 use Rattle.problem.specs.Table.{lastNode, arcsOf, allSound}
 use Rattle.problem.specs.Spans.{markedArcs}
-use Rattle.problem.specs.Closed.{closedSize, closedIn, isOpen, noneClosed, plannedArcs}
+use Rattle.problem.specs.Closed.{closedSize, closedIn, isOpen, AllOpen, noneClosed, plannedArcs}
 use Rattle.problem.specs.Exposures.{disjoint}
 use Rattle.problem.specs.Routes.{metresOf, IsWay, IsRoute, Route, routeOf, precedes, ranking, FreeWay}
-use Rattle.problem.specs.Reply.{meshOver, meshOf, firstNumber, sizeChecks, requestChecks, arcChecks, closedChecks, plainChecks, refusal, ClosedSet, planned, answerUnless, answerAround, answer}
-use Rattle.problem.specs.Calls.{routesOf, RouteOf, WayOf, Applies, AllOpen, ClosesAside, plannedUnless, answerOverAll}
+use Rattle.problem.specs.Reply.{meshOver, meshOf, firstNumber, sizeChecks, requestChecks, arcChecks, blankChecks, closedChecks, plainChecks, refusal, ClosedSet, planned, plannedUnless, answerAround, answer}
+use Rattle.problem.specs.Calls.{routesOf, RouteOf, WayOf, Applies, ClosesAside, answerOverAll}
 use Rattle.problem.proofs.ClosedLaws.{shut-metres-of, shut-exposure-of, shut-route, none-closed, planned-heads, planned-ways, planned-paths, planned-unclosed}
 use Rattle.problem.proofs.RankingLaws.{Listed, precedes-weak, ranking-in, ranking-out, ranking-strict}
 use Rattle.problem.proofs.RefusalLaws.{turn-sixteen}
@@ -34,14 +34,14 @@ module _ (table closed : List ℕ) (q : Request) (sound : allSound (arcsOf table
   metres-same : (ks : List ℕ) → metresOf (plannedArcs table closed) ks ≡ metresOf (markedArcs table) ks
   metres-same = shut-metres-of (closedIn closed) (markedArcs table)
 
-  pub ways-open : q .source ≤ lastNode → (ks : List ℕ) → WayOf table closed q ks ↔ (IsWay (meshOver (markedArcs table) q) ks × AllOpen closed ks)
+  pub ways-open : q .source ≤ lastNode → (ks : List ℕ) → WayOf table closed q ks ↔ (IsWay (meshOver (markedArcs table) q) ks × AllOpen (closedIn closed) ks)
   ways-open node ks =
       let w = planned-ways table closed sound node ks in (
         λ i. let o = w .0 (i .way) in (record { way = o .0; within-reach = omega (arith, metres-same ks, i .within-reach) }, o .1),
         λ i. record { way = w .1 (i .0 .way, i .1); within-reach = omega (arith, metres-same ks, i .0 .within-reach) },
       )
 
-  pub routes-open : q .source ≤ lastNode → (ks : List ℕ) → RouteOf table closed q ks ↔ (IsRoute (meshOver (markedArcs table) q) ks × AllOpen closed ks)
+  pub routes-open : q .source ≤ lastNode → (ks : List ℕ) → RouteOf table closed q ks ↔ (IsRoute (meshOver (markedArcs table) q) ks × AllOpen (closedIn closed) ks)
   routes-open node ks =
       let p = planned-paths table closed sound node ks in (
         λ i. let o = p .0 (i .path) in (record { path = o .0; within-reach = omega (arith, metres-same ks, i .within-reach) }, o .1),
@@ -50,7 +50,7 @@ module _ (table closed : List ℕ) (q : Request) (sound : allSound (arcsOf table
 
 -- and so are the ways by which a distance is given
 pub free-open : (table closed : List ℕ) → allSound (arcsOf table) ≡ true → (banned : Exposure) (terminal v : ℕ) → v ≤ lastNode → (ks : List ℕ)
-    → FreeWay (plannedArcs table closed) banned terminal v ks ↔ (FreeWay (markedArcs table) banned terminal v ks × AllOpen closed ks)
+    → FreeWay (plannedArcs table closed) banned terminal v ks ↔ (FreeWay (markedArcs table) banned terminal v ks × AllOpen (closedIn closed) ks)
 free-open table closed sound banned terminal v node ks =
     let w = planned-ways table closed sound node ks in
     let same = ap (λ (e : Exposure). disjoint e banned) (shut-exposure-of (closedIn closed) (markedArcs table) ks) in (
@@ -63,7 +63,7 @@ free-open table closed sound banned terminal v node ks =
 -- a set that passes its check leaves the first number to the other checks
 pub set-quiet : {table closed : List ℕ} → ClosedSet table closed → (q : Request) (size : ℕ)
     → refusal table closed q size ≡ firstNumber (plainChecks table q size)
-unfolding refusal sizeChecks requestChecks arcChecks closedChecks firstNumber
+unfolding refusal sizeChecks requestChecks arcChecks blankChecks closedChecks firstNumber
 set-quiet {table} {closed} s q size = rw (eq-eqb (length closed) closedSize (s .whole), lt-ltb (closedIn closed) (2 ^ length (arcsOf table)) (s .inside))
 
 pub none-set : (table : List ℕ) → ClosedSet table noneClosed
@@ -71,10 +71,10 @@ none-set table = record { whole = refl; inside = omega (arith, none-closed, pow-
 
 -- with nothing closed: the answer over all arcs
 pub over-all : (table : List ℕ) (q : Request) (size : ℕ) → answer table q size ≡ answerOverAll table q size
-unfolding answerAround answerUnless
-over-all table q size = ap (λ (n : ℕ). answerUnless n table noneClosed q) (set-quiet (none-set table) q size) ∙ go (firstNumber (plainChecks table q size))
+unfolding answerAround plannedUnless
+over-all table q size = ap (λ (n : ℕ). plannedUnless n (plannedArcs table noneClosed) q) (set-quiet (none-set table) q size) ∙ go (firstNumber (plainChecks table q size))
   where
-    go : (n : ℕ) → answerUnless n table noneClosed q ≡ plannedUnless n (markedArcs table) q
+    go : (n : ℕ) → plannedUnless n (plannedArcs table noneClosed) q ≡ plannedUnless n (markedArcs table) q
     go zero = ap (λ (arcs : List Arc). planned (ranking (meshOver arcs q)) (q .allowance)) (planned-unclosed table)
     go (suc n) = refl
 
@@ -83,21 +83,21 @@ never-sixteen table q size e =
     let told = numbered table noneClosed q size 16 (omega arith) .0 e in
     go (subst (λ (t : ℕ). Applies table noneClosed q size t 16) (turn-sixteen table noneClosed q size (told .applies)) (told .applies))
   where
-    go : {i : ℕ} → Applies table noneClosed q size 10 i → ⊥
+    go : {i : ℕ} → Applies table noneClosed q size 11 i → ⊥
     go (Applies.set-not-whole h) = h refl
     go (Applies.set-past-table k b h) = eqb-false _ 0 h (ap (λ (set : ℕ). bit set k) none-closed ∙ bit-empty k)
 
 -- ---- closing what lies on no route
 
 module _ {table closed more : List ℕ} {q : Request} (c : ClosesAside table closed more q) (sound : allSound (arcsOf table) ≡ true) (node : q .source ≤ lastNode) where
-  still-open : (ks : List ℕ) → RouteOf table closed q ks → AllOpen closed ks → AllOpen more ks
+  still-open : (ks : List ℕ) → RouteOf table closed q ks → AllOpen (closedIn closed) ks → AllOpen (closedIn more) ks
   still-open ks r free k m = go (isOpen (closedIn more) k) refl
     where
       go : (b : Bool) → isOpen (closedIn more) k ≡ b → isOpen (closedIn more) k ≡ true
       go true e = e
       go false e = absurd (c .aside k (free k m) e ks r m)
 
-  open-before : (ks : List ℕ) → AllOpen more ks → AllOpen closed ks
+  open-before : (ks : List ℕ) → AllOpen (closedIn more) ks → AllOpen (closedIn closed) ks
   open-before ks free k m = go (isOpen (closedIn closed) k) refl
     where
       go : (b : Bool) → isOpen (closedIn closed) k ≡ b → isOpen (closedIn closed) k ≡ true
@@ -130,13 +130,13 @@ module _ {table closed more : List ℕ} {q : Request} (c : ClosesAside table clo
 
 pub aside-same : {table closed more : List ℕ} {q : Request} → ClosedSet table closed → ClosedSet table more → ClosesAside table closed more q → (size : ℕ)
     → answerAround table more q size ≡ answerAround table closed q size
-unfolding answerAround answerUnless
-aside-same {table} {closed} {more} {q} s t c size = ap (λ (n : ℕ). answerUnless n table more q) same ∙ go (refusal table closed q size) refl
+unfolding answerAround plannedUnless
+aside-same {table} {closed} {more} {q} s t c size = ap (λ (n : ℕ). plannedUnless n (plannedArcs table more) q) same ∙ go (refusal table closed q size) refl
   where
     same : refusal table more q size ≡ refusal table closed q size
     same = set-quiet t q size ∙ sym (set-quiet s q size)
 
-    go : (n : ℕ) → refusal table closed q size ≡ n → answerUnless n table more q ≡ answerUnless n table closed q
+    go : (n : ℕ) → refusal table closed q size ≡ n → plannedUnless n (plannedArcs table more) q ≡ plannedUnless n (plannedArcs table closed) q
     go zero e =
         let p = refusal-passed table closed q size e in
         ap (λ (routes : List Route). planned routes (q .allowance)) (same-ranking c (p .checked .sound) (p .checked .source-node))

@@ -1,9 +1,9 @@
--- How calls end: the verdict, which number goes with which end, the order of the checks, and the arc that a number names. Assumes nothing.
-use mathlib.Core.Path.{_≡_, refl, sym, ap, subst}
+-- How calls end: the verdict, which number goes with which end, the order of the checks, the arc that a number names, and what is answered as before there was a check for blanks. Assumes nothing.
+use mathlib.Core.Path.{_≡_, refl, sym, ap, ap₂, _∙_, subst}
 use mathlib.Core.Bool.{Bool, true, false}
 use mathlib.Core.Logic.{_⊎_, inl, inr, _↔_}
-use mathlib.Core.List.{List, [], List·Memᴰ, List·Memᴰ·not-nil}
-use Prim.Native.Nat.{ℕ, _+_, _*_, _/_, _%_, _≤_, _<_}
+use mathlib.Core.List.{List, [], _++_, List·Memᴰ, List·Memᴰ·not-nil}
+use Prim.Native.Nat.{ℕ, zero, suc, _+_, _*_, _/_, _%_, _≤_, _<_}
 use native.Mathlib.Omega.{arith}
 use lib.Dec.{leb, ltb}
 use lib.ListN.{length}
@@ -11,17 +11,20 @@ use borrow.Author.Tests.{leb-true, leb-false, le-leb, lt-leb, ltb-true, ltb-fals
 use Rattle.laws.proofs.ListLaws.{getD-mem}
 use Rattle.problem.specs.declared.Request.{Request}
 use Rattle.problem.specs.Table.{arcsOf, faultOf}
+use Rattle.problem.specs.Blanks.{Blank, blanksNumber}
 use Rattle.problem.specs.Closed.{closedSize, closedIn, isOpen, plannedArcs}
 use Rattle.problem.specs.Routes.{Route, arcAt, routeOf}
 use Rattle.problem.specs.Pairs.{noRoute, Step, every, someAt, leastSettled, ranked, verdict}
-use Rattle.problem.specs.Reply.{meshOf, Answer, Passed, answerAround}
-use Rattle.problem.specs.Calls.{routesOf, RouteOf, Applies, Told, LowestFault}
+use Rattle.problem.specs.Reply.{meshOf, Answer, firstNumber, sizeChecks, requestChecks, arcChecks, blankChecks, closedChecks, refusal, Passed, plannedUnless, answerAround}
+use Rattle.problem.specs.Calls.{routesOf, RouteOf, Applies, Told, LowestFault, LowestBlank, answerWithBlanks}
 use Rattle.problem.proofs.FaultLaws.{fault-range, lowest-first}
 use Rattle.problem.proofs.ClosedLaws.{planned-heads}
+use Rattle.problem.proofs.BlankLaws.{lowest-told}
+use Rattle.problem.proofs.FirstLaws.{orNext, first-append, early-refusing, plain-refusing, first-blanks}
 use Rattle.problem.proofs.RankingLaws.{ranking-in, ranking-out}
 use Rattle.problem.proofs.CandidateLaws.{every-some}
 use Rattle.problem.proofs.ReplyLaws.{answered, Outcome, outcome, passed-refusal, ranked-step}
-use Rattle.problem.proofs.RefusalLaws.{NoneBefore, Known, turn-sixteen, turn-ten, told-two, told-own, told-same, told-faulty, told-lowest, told-known, passed-ten, passed-before}
+use Rattle.problem.proofs.RefusalLaws.{NoneBefore, Known, turn-sixteen, turn-ten, told-two, told-own, told-same, told-faulty, told-blank, told-lowest, told-known, passed-ten, passed-before}
 
 -- ---- the verdict
 
@@ -123,7 +126,7 @@ module _ (table closed : List ℕ) (q : Request) (size : ℕ) where
       go : Outcome table closed q size → Told table closed q size (answerAround table closed q size .number)
       go (Outcome.by-check n r told e) = subst (Told table closed q size) (sym (number-of e)) told
       go (Outcome.no-route p none e) =
-          subst (Told table closed q size) (sym (number-of e)) (told-own table closed q size (λ e. omega arith) (Applies.no-route (none-listed p none)) (passed-before table closed q size p))
+          subst (Told table closed q size) (sym (number-of e)) (told-own table closed q size (inr (omega arith)) (Applies.no-route (none-listed p none)) (passed-before table closed q size p))
       go (Outcome.with-pair p some e) = absurd (omega (arith, number-of e, verdict-small (routesOf table closed q) (q .allowance)))
 
   -- whatever is answered is refused by none
@@ -139,29 +142,29 @@ module _ (table closed : List ℕ) (q : Request) (size : ℕ) where
       from told false l = told-same table closed q size (refused-told (ltb-false (answerAround table closed q size .number) 2 l)) told
 
   -- that of no route, where no turn before comes to a number
-  pub no-route-exactly : NoneBefore table closed q size 11 → (answerAround table closed q size .number ≡ 10) ↔ NoRoute table closed q
+  pub no-route-exactly : NoneBefore table closed q size 12 → (answerAround table closed q size .number ≡ 10) ↔ NoRoute table closed q
   no-route-exactly before =
-      (λ e. told-none (numbered 10 (omega arith) .0 e), λ f. numbered 10 (omega arith) .1 (told-own table closed q size (λ e. omega arith) (Applies.no-route f) before))
+      (λ e. told-none (numbered 10 (omega arith) .0 e), λ f. numbered 10 (omega arith) .1 (told-own table closed q size (inr (omega arith)) (Applies.no-route f) before))
     where
-      none : {i : ℕ} → Applies table closed q size 11 i → NoRoute table closed q
+      none : {i : ℕ} → Applies table closed q size 12 i → NoRoute table closed q
       none (Applies.no-route f) = f
 
       told-none : Told table closed q size 10 → NoRoute table closed q
       told-none told = none (subst (λ (t : ℕ). Applies table closed q size t 10) (turn-ten table closed q size (told .applies)) (told .applies))
 
   -- that of the closed set, where no turn before it does
-  pub set-exactly : NoneBefore table closed q size 10
+  pub set-exactly : NoneBefore table closed q size 11
       → (answerAround table closed q size .number ≡ 16) ↔ ((length closed ≡ closedSize → ⊥) ⊎ ((k : ℕ) × (length (arcsOf table) ≤ k) × (isOpen (closedIn closed) k ≡ false)))
-  set-exactly before = (λ e. told-set (numbered 16 (omega arith) .0 e), λ f. numbered 16 (omega arith) .1 (told-own table closed q size (λ e. omega arith) (applies f) before))
+  set-exactly before = (λ e. told-set (numbered 16 (omega arith) .0 e), λ f. numbered 16 (omega arith) .1 (told-own table closed q size (inr (omega arith)) (applies f) before))
     where
       Bad : Type 0
       Bad = (length closed ≡ closedSize → ⊥) ⊎ ((k : ℕ) × (length (arcsOf table) ≤ k) × (isOpen (closedIn closed) k ≡ false))
 
-      applies : Bad → Applies table closed q size 10 16
+      applies : Bad → Applies table closed q size 11 16
       applies (inl h) = Applies.set-not-whole h
       applies (inr p) = Applies.set-past-table (p .0) (p .1) (p .2)
 
-      bad : {i : ℕ} → Applies table closed q size 10 i → Bad
+      bad : {i : ℕ} → Applies table closed q size 11 i → Bad
       bad (Applies.set-not-whole h) = inl h
       bad (Applies.set-past-table k b h) = inr (k, b, h)
 
@@ -170,23 +173,42 @@ module _ (table closed : List ℕ) (q : Request) (size : ℕ) where
 
   -- ---- the number of an arc
 
-  -- a number past 16 is told of an arc of the table
-  lowest : 16 < answerAround table closed q size .number → (i n : ℕ) → n < 256 → answerAround table closed q size .number ≡ n + 256 * i → LowestFault (arcsOf table) i n
-  lowest past = told-lowest table closed q size past (refused-told (omega arith))
+  -- a number past 10, but for 16, is told of an arc of the table: of its fault, or of its blank
+  abbrev OfArc : ℕ → ℕ → Type 0
+  OfArc i n = LowestFault (arcsOf table) i n ⊎ ((n ≡ 24) × LowestBlank (arcsOf table) i)
 
-  pub arc-apart : 16 < answerAround table closed q size .number → LowestFault (arcsOf table) (answerAround table closed q size .number / 256) (answerAround table closed q size .number % 256)
-  arc-apart past = lowest past (answerAround table closed q size .number / 256) (answerAround table closed q size .number % 256) (omega arith) (omega arith)
+  lowest : 10 < answerAround table closed q size .number → (answerAround table closed q size .number ≡ 16 → ⊥) → (i n : ℕ) → n < 256 → answerAround table closed q size .number ≡ n + 256 * i → OfArc i n
+  lowest past other = told-lowest table closed q size past other (refused-told (omega arith))
 
-  -- where no turn before that of the arcs comes to a number, which arc it names, and which fault
+  pub arc-apart : 10 < answerAround table closed q size .number → (answerAround table closed q size .number ≡ 16 → ⊥) → OfArc (answerAround table closed q size .number / 256) (answerAround table closed q size .number % 256)
+  arc-apart past other = lowest past other (answerAround table closed q size .number / 256) (answerAround table closed q size .number % 256) (omega arith) (omega arith)
+
+  -- a fault has a number up to 22, and a blank has 24
+  of-fault : {i n : ℕ} → n ≤ 22 → OfArc i n → LowestFault (arcsOf table) i n
+  of-fault small (inl l) = l
+  of-fault small (inr b) = absurd (omega (arith, b .0))
+
+  of-blank : {i n : ℕ} → 22 < n → OfArc i n → (n ≡ 24) × LowestBlank (arcsOf table) i
+  of-blank {i} large (inl l) = absurd (omega (arith, l .first-fault, fault-range (faultOf (arcAt (arcsOf table) i))))
+  of-blank large (inr b) = b
+
+  -- where no turn before that of faulty arcs comes to a number, which arc it names, and which fault
   pub arc-named : NoneBefore table closed q size 9 → (n i : ℕ) → 20 ≤ n → n ≤ 22 → (answerAround table closed q size .number ≡ n + 256 * i) ↔ LowestFault (arcsOf table) i n
   arc-named below n i low high = (
-    λ e. lowest (omega arith) i n (omega arith) e,
+    λ e. of-fault high (lowest (omega arith) (λ z. omega arith) i n (omega arith) e),
     λ l. numbered (n + 256 * i) (omega arith) .1 (subst (Told table closed q size) (omega (arith, l .first-fault)) (told-faulty table closed q size below (lowest-first (arcsOf table) l))),
   )
 
+  -- which blank arc, where none before that of blank ones does
+  pub blank-told : (i : ℕ) → answerAround table closed q size .number ≡ 24 + 256 * i → LowestBlank (arcsOf table) i
+  blank-told i e = of-blank (omega arith) (lowest (omega arith) (λ z. omega arith) i 24 (omega arith) e) .1
+
+  pub blank-named : NoneBefore table closed q size 10 → (i : ℕ) → (answerAround table closed q size .number ≡ 24 + 256 * i) ↔ LowestBlank (arcsOf table) i
+  blank-named below i = (blank-told i, λ l. numbered (24 + 256 * i) (omega arith) .1 (told-blank table closed q size below l))
+
   -- no arc has a fault of number 23
   pub never-spare : (i : ℕ) → answerAround table closed q size .number ≡ 23 + 256 * i → ⊥
-  never-spare i e = let l = lowest (omega arith) i 23 (omega arith) e in omega (arith, l .first-fault, fault-range (faultOf (arcAt (arcsOf table) i)))
+  never-spare i e = omega (arith, of-blank (omega arith) (lowest (omega arith) (λ z. omega arith) i 23 (omega arith) e) .0)
 
   -- no number is 9, or past 10 without an arc but for 16
   pub number-known : Known (answerAround table closed q size .number)
@@ -195,3 +217,36 @@ module _ (table closed : List ℕ) (q : Request) (size : ℕ) where
       go : (b : Bool) → ltb (answerAround table closed q size .number) 2 ≡ b → Known (answerAround table closed q size .number)
       go true e = let low = ltb-true (answerAround table closed q size .number) 2 e in Known.to-ten {n = answerAround table closed q size .number} (omega arith) (λ nine. omega arith)
       go false e = told-known table closed q size (refused-told (ltb-false (answerAround table closed q size .number) 2 e))
+
+  -- ---- as before there was a check for blanks
+
+  -- the checks before it, and those behind it
+  abbrev early : ℕ
+  early = firstNumber (sizeChecks table size ++ requestChecks q ++ arcChecks table)
+
+  abbrev late : ℕ
+  late = firstNumber (closedChecks table closed)
+
+  refusal-parts : refusal table closed q size ≡ orNext (orNext early (blanksNumber (arcsOf table))) late
+  unfolding refusal
+  refusal-parts =
+      first-append (plain-refusing table q size) (closedChecks table closed)
+      ∙ ap (λ (n : ℕ). orNext n late) (first-append (early-refusing table q size) (blankChecks table) ∙ ap (orNext early) (first-blanks table))
+
+  parts-before : firstNumber (sizeChecks table size ++ requestChecks q ++ arcChecks table ++ closedChecks table closed) ≡ orNext early late
+  parts-before = first-append (early-refusing table q size) (closedChecks table closed)
+
+  -- a call that is not refused for a blank is answered as if none were looked for
+  pub otherwise-before : ((i : ℕ) → answerAround table closed q size .number ≡ 24 + 256 * i → ⊥) → answerAround table closed q size ≡ answerWithBlanks table closed q size
+  unfolding answerAround plannedUnless orNext
+  otherwise-before other = ap (λ (n : ℕ). plannedUnless n (plannedArcs table closed) q) (refusal-parts ∙ go early (blanksNumber (arcsOf table)) refl refl ∙ sym parts-before)
+    where
+      refused : (n : ℕ) → refusal table closed q size ≡ suc n → answerAround table closed q size .number ≡ suc n
+      refused n e = ap (λ (m : ℕ). plannedUnless m (plannedArcs table closed) q .number) e
+
+      go : (n b : ℕ) → early ≡ n → blanksNumber (arcsOf table) ≡ b → orNext (orNext n b) late ≡ orNext n late
+      go (suc n) b en eb = refl
+      go zero zero en eb = refl
+      go zero (suc b) en eb =
+          let t = lowest-told (arcsOf table) (λ z. omega (arith, sym z ∙ eb)) in
+          absurd (other (t .0) (refused b (refusal-parts ∙ rw (en, eb)) ∙ sym eb ∙ t .2))

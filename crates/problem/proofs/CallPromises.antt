@@ -14,10 +14,11 @@ use Rattle.problem.specs.declared.Request.{Request}
 use Rattle.problem.specs.Table.{mostArcs, mostShared, mostReach, mostAllowance, replySize, Bytes, over, recordAt, arcsOf}
 use Rattle.problem.specs.Routes.{Route, arcAt, metresOf, IsWay}
 use Rattle.problem.specs.Spans.{markedArcs}
-use Rattle.problem.specs.Closed.{closedSize, plannedArcs}
+use Rattle.problem.specs.Blanks.{Blank}
+use Rattle.problem.specs.Closed.{closedSize, closedIn, AllOpen, plannedArcs}
 use Rattle.problem.specs.Pairs.{pair, sharedRisks, sharedCount, sharedSpans, total, judged, NoWorse, ofRank, floor}
 use Rattle.problem.specs.Reply.{meshOver, Answer, ClosedSet, answerAround, after, sharedIn, sharedSpansIn, rankedIn, mainMetresIn, standbyMetresIn, totalIn, sharedRisksIn, mainIn, standbyIn}
-use Rattle.problem.specs.Calls.{routesOf, RouteOf, WayOf, pairMadeOf, pairSaid, allowing, Applies, Told, LowestFault, answerByRisks, answerOverAll, AllOpen, ClosesAside, CalledAround, Called}
+use Rattle.problem.specs.Calls.{routesOf, RouteOf, WayOf, pairMadeOf, pairSaid, allowing, Applies, Told, LowestFault, LowestBlank, answerByRisks, answerOverAll, answerWithBlanks, ClosesAside, CalledAround, Called}
 use Rattle.problem.specs.Mending.{mostFieldBytes, Clean, mendedTable, Change, mendedList, changesIn, oldNumber, roundedUp, Mending, mending, Mends, KeptAs, lost, Listed}
 use Rattle.problem.proofs.MendCallLaws as MendCallLaws
 use Rattle.problem.proofs.Promises as promised
@@ -32,6 +33,10 @@ module _ {table closed : List ℕ} {q : Request} {before now : List ℕ} {number
 
   zero-is : number ≡ 0 → answerAround table closed q (length before) .number ≡ 0
   zero-is e = sym (c .number-is) ∙ e
+
+  -- an answer that is known to be another is what the call gives
+  gives : {a : Answer} → answerAround table closed q (length before) ≡ a → (number ≡ a .number) × (now ≡ after a before)
+  gives same = (c .number-is ∙ ap (λ (a : Answer). a .number) same, c .buffer-is ∙ ap (λ (a : Answer). after a before) same)
 
   -- ==== Demand 1
 
@@ -124,8 +129,8 @@ module _ {table closed : List ℕ} {q : Request} {before now : List ℕ} {number
   pub call-names : ((t i : ℕ) → t < 9 → Applies table closed q (length before) t i → ⊥) → (n i : ℕ) → 20 ≤ n → n ≤ 22 → (number ≡ n + 256 * i) ↔ LowestFault (arcsOf table) i n
   call-names = rw (c .number-is) (promised.arc-named table closed q (length before))
 
-  -- any number past 16, taken apart
-  pub call-apart : 16 < number → LowestFault (arcsOf table) (number / 256) (number % 256)
+  -- any number past 10 but for 16, taken apart
+  pub call-apart : 10 < number → (number ≡ 16 → ⊥) → LowestFault (arcsOf table) (number / 256) (number % 256) ⊎ ((number % 256 ≡ 24) × LowestBlank (arcsOf table) (number / 256))
   call-apart = rw (c .number-is) (promised.arc-apart table closed q (length before))
 
   -- number 9 has ended: it is returned for no call
@@ -141,13 +146,29 @@ module _ {table closed : List ℕ} {q : Request} {before now : List ℕ} {number
   -- a table with no span number: the number and the buffer are those of the answer with spans left out
   pub call-as-before : ((k : ℕ) → k < length (arcsOf table) → arcAt (arcsOf table) k .span ≡ 0)
       → (number ≡ answerByRisks table closed q (length before) .number) × (now ≡ after (answerByRisks table closed q (length before)) before)
-  call-as-before none =
-      let same = promised.as-before table closed q (length before) none in
-      (c .number-is ∙ ap (λ (a : Answer). a .number) same, c .buffer-is ∙ ap (λ (a : Answer). after a before) same)
+  call-as-before none = gives (promised.as-before table closed q (length before) none)
 
   -- number 23 has ended: it is returned for no call, of whichever arc
   pub call-never-twenty-three : (i : ℕ) → number ≡ 23 + 256 * i → ⊥
   call-never-twenty-three i e = promised.never-twenty-three table closed q (length before) i (sym (c .number-is) ∙ e)
+
+  -- ==== Request T-09
+
+  -- once the checks before have passed, the number is 24 + 256 i exactly where arc i is blank and no arc below it is; and no call is answered on a table with a blank
+  pub call-names-blank : ((t i : ℕ) → t < 10 → Applies table closed q (length before) t i → ⊥) → (i : ℕ) → (number ≡ 24 + 256 * i) ↔ LowestBlank (arcsOf table) i
+  call-names-blank = rw (c .number-is) (promised.blank-named table closed q (length before))
+
+  pub call-listed : number < 2 → (k : ℕ) → k < length (arcsOf table) → Blank (arcAt (arcsOf table) k) → ⊥
+  call-listed h = promised.answered-listed table closed q (length before) (low h)
+
+  -- a table without one, and any call that is not refused for one: the number and the buffer are those of before
+  pub call-listed-before : ((k : ℕ) → k < length (arcsOf table) → Blank (arcAt (arcsOf table) k) → ⊥)
+      → (number ≡ answerWithBlanks table closed q (length before) .number) × (now ≡ after (answerWithBlanks table closed q (length before)) before)
+  call-listed-before none = gives (promised.listed-before table closed q (length before) none)
+
+  pub call-otherwise-before : ((i : ℕ) → number ≡ 24 + 256 * i → ⊥)
+      → (number ≡ answerWithBlanks table closed q (length before) .number) × (now ≡ after (answerWithBlanks table closed q (length before)) before)
+  call-otherwise-before other = gives (promised.otherwise-before table closed q (length before) (λ i e. other i (c .number-is ∙ e)))
 
 -- two calls on the same buffer, the second with a larger permitted allowance
 module _ {table closed : List ℕ} {q : Request} {b : ℕ} {before now later : List ℕ} {first second : ℕ} (c : CalledAround table closed q before first now) (d : CalledAround table closed (allowing q b) before second later)
@@ -170,12 +191,12 @@ module _ {table closed : List ℕ} {q : Request} {b : ℕ} {before now later : L
 
 -- no arc in the bytes is closed
 pub call-open : {table closed : List ℕ} {q : Request} {before now : List ℕ} {number : ℕ} → (c : CalledAround table closed q before number now) → number < 2
-    → AllOpen closed (mainIn (take replySize now)) × AllOpen closed (standbyIn (take replySize now))
+    → AllOpen (closedIn closed) (mainIn (take replySize now)) × AllOpen (closedIn closed) (standbyIn (take replySize now))
 call-open {table} {closed} {q} {before} c h = rw (replied c h) (promised.reply-open table closed q (length before) (low c h))
 
 -- settled: no two ways over open arcs do better than what the bytes say
 pub call-open-no-better : {table closed : List ℕ} {q : Request} {before now : List ℕ} {number : ℕ} → (c : CalledAround table closed q before number now) → number ≡ 0
-    → (u v : List ℕ) → IsWay (meshOver (markedArcs table) q) u → AllOpen closed u → IsWay (meshOver (markedArcs table) q) v → AllOpen closed v
+    → (u v : List ℕ) → IsWay (meshOver (markedArcs table) q) u → AllOpen (closedIn closed) u → IsWay (meshOver (markedArcs table) q) v → AllOpen (closedIn closed) v
     → let p = pairMadeOf (markedArcs table) u v in NoWorse (sharedIn (take replySize now)) (totalIn (take replySize now)) (sharedCount p) (total p)
 call-open-no-better {table} {closed} {q} {before} c e = rw (replied c (omega arith)) (promised.open-no-better table closed q (length before) (zero-is c e))
 
@@ -193,9 +214,7 @@ call-none-closed {table} {closed} {q} {before} c d whole zeros = same-call c d (
 -- which does as before there were closed sets, and never returns 16
 pub call-over-all : {table : List ℕ} {q : Request} {before now : List ℕ} {number : ℕ} → Called table q before number now
     → (number ≡ answerOverAll table q (length before) .number) × (now ≡ after (answerOverAll table q (length before)) before)
-call-over-all {table} {q} {before} c =
-    let same = promised.as-over-all table q (length before) in
-    (c .number-is ∙ ap (λ (a : Answer). a .number) same, c .buffer-is ∙ ap (λ (a : Answer). after a before) same)
+call-over-all {table} {q} {before} c = gives c (promised.as-over-all table q (length before))
 
 pub call-never-sixteen : {table : List ℕ} {q : Request} {before now : List ℕ} {number : ℕ} → Called table q before number now → number ≡ 16 → ⊥
 call-never-sixteen {table} {q} {before} c e = promised.never-sixteen table q (length before) (sym (c .number-is) ∙ e)

@@ -12,7 +12,7 @@ use Rattle.laws.proofs.SetLaws.{bit-empty}
 use Rattle.problem.specs.declared.Arc.{Arc}
 use Rattle.problem.specs.Table.{lastNode, riskWidth, mostReach, Bytes, numberAt, arcsOf, allSound}
 use Rattle.problem.specs.Spans.{markedArcs}
-use Rattle.problem.specs.Closed.{closedIn, isOpen, noneClosed, shut, closedBy, shutIn, plannedArcs}
+use Rattle.problem.specs.Closed.{closedIn, isOpen, AllOpen, noneClosed, shut, closedBy, shutIn, plannedArcs}
 use Rattle.problem.specs.Exposures.{ofArc, joined}
 use Rattle.problem.specs.Routes.{arcAt, metresOf, exposureOf, nodesFrom, Way, IsPath, routeOf}
 use Rattle.problem.proofs.SpanLaws.{marked-sound, marked-risks-below}
@@ -36,10 +36,6 @@ module _ (l r : List Arc) (metres : (k : ℕ) → arcAt l k .metres ≡ arcAt r 
   route-alike ks = ap₂ (λ x e. record { arcs = ks; metres = x; exposure = e }) (metres-alike ks) (exposure-alike ks)
 
 -- ---- arcs of which the closed ones are changed
-
--- none of a list of arcs is in the set
-abbrev pub Open : ℕ → List ℕ → Type 0
-Open set ks = (k : ℕ) → List·Memᴰ k ks → isOpen set k ≡ true
 
 module _ (f : Arc → Arc) (set : ℕ) where
   pub closed-length : (i : ℕ) (arcs : List Arc) → length (closedBy f set i arcs) ≡ length arcs
@@ -75,84 +71,83 @@ closed-none f i (a ∷ arcs) = rw (bit-empty i) (ap (λ (l : List Arc). a ∷ l)
 
 -- ---- closed arcs shut
 
-module _ (set : ℕ) where
-  module _ (arcs : List Arc) where
-    abbrev around : List Arc
-    around = shutIn set arcs
+module _ (set : ℕ) (arcs : List Arc) where
+  abbrev around : List Arc
+  around = shutIn set arcs
 
-    shut-length : length around ≡ length arcs
-    shut-length = closed-length shut set 0 arcs
+  shut-length : length around ≡ length arcs
+  shut-length = closed-length shut set 0 arcs
 
-    -- an open arc stays as it is, a closed one begins at no node
-    pub open-at : (k : ℕ) → k < length arcs → isOpen set k ≡ true → arcAt around k ≡ arcAt arcs k
-    open-at k h e = closed-place shut set arcs k h ∙ rw e
+  -- an open arc stays as it is, a closed one begins at no node
+  pub open-at : (k : ℕ) → k < length arcs → isOpen set k ≡ true → arcAt around k ≡ arcAt arcs k
+  open-at k h e = closed-place shut set arcs k h ∙ rw e
 
-    pub closed-at : (k : ℕ) → k < length arcs → isOpen set k ≡ false → arcAt around k ≡ shut (arcAt arcs k)
-    closed-at k h e = closed-place shut set arcs k h ∙ rw e
+  pub closed-at : (k : ℕ) → k < length arcs → isOpen set k ≡ false → arcAt around k ≡ shut (arcAt arcs k)
+  closed-at k h e = closed-place shut set arcs k h ∙ rw e
 
-    shut-head : (k : ℕ) → arcAt around k .head ≡ arcAt arcs k .head
-    shut-head = closed-keeps shut set (λ a. a .head) (λ a. refl) 0 arcs
+  shut-head : (k : ℕ) → arcAt around k .head ≡ arcAt arcs k .head
+  shut-head = closed-keeps shut set (λ a. a .head) (λ a. refl) 0 arcs
 
-    pub shut-metres : (k : ℕ) → arcAt around k .metres ≡ arcAt arcs k .metres
-    shut-metres = closed-keeps shut set (λ a. a .metres) (λ a. refl) 0 arcs
+  pub shut-metres : (k : ℕ) → arcAt around k .metres ≡ arcAt arcs k .metres
+  shut-metres = closed-keeps shut set (λ a. a .metres) (λ a. refl) 0 arcs
 
-    pub shut-exposure : (k : ℕ) → ofArc (arcAt around k) ≡ ofArc (arcAt arcs k)
-    unfolding ofArc
-    shut-exposure = closed-keeps shut set ofArc (λ a. refl) 0 arcs
+  pub shut-exposure : (k : ℕ) → ofArc (arcAt around k) ≡ ofArc (arcAt arcs k)
+  unfolding ofArc
+  shut-exposure = closed-keeps shut set ofArc (λ a. refl) 0 arcs
 
-    pub shut-metres-of : (ks : List ℕ) → metresOf around ks ≡ metresOf arcs ks
-    shut-metres-of = metres-alike around arcs shut-metres shut-exposure
+  pub shut-metres-of : (ks : List ℕ) → metresOf around ks ≡ metresOf arcs ks
+  shut-metres-of = metres-alike around arcs shut-metres shut-exposure
 
-    pub shut-exposure-of : (ks : List ℕ) → exposureOf around ks ≡ exposureOf arcs ks
-    shut-exposure-of = exposure-alike around arcs shut-metres shut-exposure
+  pub shut-exposure-of : (ks : List ℕ) → exposureOf around ks ≡ exposureOf arcs ks
+  shut-exposure-of = exposure-alike around arcs shut-metres shut-exposure
 
-    pub shut-route : (ks : List ℕ) → routeOf around ks ≡ routeOf arcs ks
-    shut-route = route-alike around arcs shut-metres shut-exposure
+  pub shut-route : (ks : List ℕ) → routeOf around ks ≡ routeOf arcs ks
+  shut-route = route-alike around arcs shut-metres shut-exposure
 
-    shut-nodes : (v : ℕ) (ks : List ℕ) → nodesFrom around v ks ≡ nodesFrom arcs v ks
-    unfolding nodesFrom
-    shut-nodes v [] = refl
-    shut-nodes v (k ∷ ks) = ap (λ (l : List ℕ). v ∷ l) (ap (λ (h : ℕ). nodesFrom around h ks) (shut-head k) ∙ shut-nodes (arcAt arcs k .head) ks)
+  shut-nodes : (v : ℕ) (ks : List ℕ) → nodesFrom around v ks ≡ nodesFrom arcs v ks
+  unfolding nodesFrom
+  shut-nodes v [] = refl
+  shut-nodes v (k ∷ ks) = ap (λ (l : List ℕ). v ∷ l) (ap (λ (h : ℕ). nodesFrom around h ks) (shut-head k) ∙ shut-nodes (arcAt arcs k .head) ks)
 
-    pub shut-low : LowHeads arcs → LowHeads around
-    shut-low low k h = omega (arith, shut-head k, low k (omega (arith, shut-length)))
+  pub shut-low : LowHeads arcs → LowHeads around
+  shut-low low k h = omega (arith, shut-head k, low k (omega (arith, shut-length)))
 
-    -- ---- ways and paths
+  -- ---- ways and paths
 
-    open-more : {k : ℕ} {ks : List ℕ} → isOpen set k ≡ true → Open set ks → Open set (k ∷ ks)
-    open-more {k} {ks} e f j m = go (List·Memᴰ·cases-cons m)
-      where
-        go : (j ≡ k) ⊎ List·Memᴰ j ks → isOpen set j ≡ true
-        go (inl p) = ap (isOpen set) p ∙ e
-        go (inr i) = f j i
+  open-more : {k : ℕ} {ks : List ℕ} → isOpen set k ≡ true → AllOpen set ks → AllOpen set (k ∷ ks)
+  open-more {k} {ks} e f j m = go (List·Memᴰ·cases-cons m)
+    where
+      go : (j ≡ k) ⊎ List·Memᴰ j ks → isOpen set j ≡ true
+      go (inl p) = ap (isOpen set) p ∙ e
+      go (inr i) = f j i
 
-    -- a way from one of the 32 nodes is one over open arcs
-    way-out : LowHeads arcs → {v to : ℕ} {ks : List ℕ} → v ≤ lastNode → Way around v to ks → Way arcs v to ks × Open set ks
-    way-out low node (Way.there e) = (Way.there e, λ k m. absurd (List·Memᴰ·not-nil m))
-    way-out low {v} {to} node (Way.over {k = k} {ks = ks} b t w) =
-        let inside : k < length arcs = omega (arith, shut-length) in
-        go inside (isOpen set k) refl (way-out low (omega (arith, shut-head k, low k inside)) w)
-      where
-        go : k < length arcs → (s : Bool) → isOpen set k ≡ s → Way arcs (arcAt around k .head) to ks × Open set ks → Way arcs v to (k ∷ ks) × Open set (k ∷ ks)
-        go inside true e on =
-            (Way.over {k = k} inside (sym (ap (λ (a : Arc). a .tail) (open-at k inside e)) ∙ t) (subst (λ (h : ℕ). Way arcs h to ks) (shut-head k) (on .0)), open-more e (on .1))
-        go inside false e on = absurd (omega (arith, ap (λ (a : Arc). a .tail) (closed-at k inside e)))
+  -- a way from one of the 32 nodes is one over open arcs
+  way-out : LowHeads arcs → {v to : ℕ} {ks : List ℕ} → v ≤ lastNode → Way around v to ks → Way arcs v to ks × AllOpen set ks
+  way-out low node (Way.there e) = (Way.there e, λ k m. absurd (List·Memᴰ·not-nil m))
+  way-out low {v} {to} node (Way.over {k = k} {ks = ks} b t w) =
+      let inside : k < length arcs = omega (arith, shut-length) in
+      go inside (isOpen set k) refl (way-out low (omega (arith, shut-head k, low k inside)) w)
+    where
+      go : k < length arcs → (s : Bool) → isOpen set k ≡ s → Way arcs (arcAt around k .head) to ks × AllOpen set ks → Way arcs v to (k ∷ ks) × AllOpen set (k ∷ ks)
+      go inside true e on =
+          (Way.over {k = k} inside (sym (ap (λ (a : Arc). a .tail) (open-at k inside e)) ∙ t) (subst (λ (h : ℕ). Way arcs h to ks) (shut-head k) (on .0)), open-more e (on .1))
+      go inside false e on = absurd (omega (arith, ap (λ (a : Arc). a .tail) (closed-at k inside e)))
 
-    way-in : {v to : ℕ} {ks : List ℕ} → Way arcs v to ks → Open set ks → Way around v to ks
-    way-in (Way.there e) free = Way.there e
-    way-in {to = to} (Way.over {k = k} {ks = ks} b t w) free =
-        let here = open-at k b (free k (List·Memᴰ·head refl)) in
-        Way.over {k = k} (omega (arith, shut-length)) (ap (λ (a : Arc). a .tail) here ∙ t)
-        (subst (λ (h : ℕ). Way around h to ks) (sym (shut-head k)) (way-in w (λ j m. free j (List·Memᴰ·tail m))))
+  way-in : {v to : ℕ} {ks : List ℕ} → Way arcs v to ks → AllOpen set ks → Way around v to ks
+  way-in (Way.there e) free = Way.there e
+  way-in {to = to} (Way.over {k = k} {ks = ks} b t w) free =
+      let here = open-at k b (free k (List·Memᴰ·head refl)) in
+      Way.over {k = k} (omega (arith, shut-length)) (ap (λ (a : Arc). a .tail) here ∙ t)
+      (subst (λ (h : ℕ). Way around h to ks) (sym (shut-head k)) (way-in w (λ j m. free j (List·Memᴰ·tail m))))
 
-    pub shut-ways : LowHeads arcs → {v to : ℕ} → v ≤ lastNode → (ks : List ℕ) → Way around v to ks ↔ (Way arcs v to ks × Open set ks)
-    shut-ways low node ks = (way-out low node, λ p. way-in (p .0) (p .1))
+  pub shut-ways : LowHeads arcs → {v to : ℕ} → v ≤ lastNode → (ks : List ℕ) → Way around v to ks ↔ (Way arcs v to ks × AllOpen set ks)
+  shut-ways low node ks = (way-out low node, λ p. way-in (p .0) (p .1))
 
-    pub shut-paths : LowHeads arcs → {v to : ℕ} → v ≤ lastNode → (ks : List ℕ) → IsPath around v to ks ↔ (IsPath arcs v to ks × Open set ks)
-    shut-paths low {v} node ks = (
-      λ p. let w = way-out low node (p .way) in (record { way = w .0; no-node-twice = subst (λ (l : List ℕ). Distinct l) (shut-nodes v ks) (p .no-node-twice) }, w .1),
-      λ p. record { way = way-in (p .0 .way) (p .1); no-node-twice = subst (λ (l : List ℕ). Distinct l) (sym (shut-nodes v ks)) (p .0 .no-node-twice) },
-    )
+  pub shut-paths : LowHeads arcs → {v to : ℕ} → v ≤ lastNode → (ks : List ℕ) → IsPath around v to ks ↔ (IsPath arcs v to ks × AllOpen set ks)
+  shut-paths low {v} node ks = (
+    λ p. let w = way-out low node (p .way) in (record { way = w .0; no-node-twice = subst (λ (l : List ℕ). Distinct l) (shut-nodes v ks) (p .no-node-twice) }, w .1),
+    λ p. record { way = way-in (p .0 .way) (p .1); no-node-twice = subst (λ (l : List ℕ). Distinct l) (sym (shut-nodes v ks)) (p .0 .no-node-twice) },
+  )
 
 pub none-closed : closedIn noneClosed ≡ 0
 unfolding closedIn numberAt
@@ -171,10 +166,10 @@ module _ (table closed : List ℕ) where
     pub planned-heads : LowHeads (plannedArcs table closed)
     planned-heads = shut-low (closedIn closed) (markedArcs table) marked-heads
 
-    pub planned-ways : {v to : ℕ} → v ≤ lastNode → (ks : List ℕ) → Way (plannedArcs table closed) v to ks ↔ (Way (markedArcs table) v to ks × Open (closedIn closed) ks)
+    pub planned-ways : {v to : ℕ} → v ≤ lastNode → (ks : List ℕ) → Way (plannedArcs table closed) v to ks ↔ (Way (markedArcs table) v to ks × AllOpen (closedIn closed) ks)
     planned-ways = shut-ways (closedIn closed) (markedArcs table) marked-heads
 
-    pub planned-paths : {v to : ℕ} → v ≤ lastNode → (ks : List ℕ) → IsPath (plannedArcs table closed) v to ks ↔ (IsPath (markedArcs table) v to ks × Open (closedIn closed) ks)
+    pub planned-paths : {v to : ℕ} → v ≤ lastNode → (ks : List ℕ) → IsPath (plannedArcs table closed) v to ks ↔ (IsPath (markedArcs table) v to ks × AllOpen (closedIn closed) ks)
     planned-paths = shut-paths (closedIn closed) (markedArcs table) marked-heads
 
     -- no path is longer than 62,000,000 metres

@@ -3,6 +3,7 @@ pub mod ExposureLaws
 pub mod ToldLaws
 pub mod FaultLaws
 pub mod TableLaws
+pub mod BlankLaws
 pub mod SpanLaws
 pub mod RouteLaws
 pub mod PathLaws
@@ -13,6 +14,7 @@ pub mod PairLaws
 pub mod CandidateLaws
 pub mod SettleLaws
 pub mod WayLaws
+pub mod FirstLaws
 pub mod RefusalLaws
 pub mod ReplyLaws
 pub mod CallLaws

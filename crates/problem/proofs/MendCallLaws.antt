@@ -1,20 +1,25 @@
--- Mending, calls: how a call of the mender ends, and what the planner makes of a clean table. Assumes nothing.
-use mathlib.Core.Path.{_≡_, refl, sym, ap, subst}
+-- Mending, calls: how a call of the mender ends, what the planner makes of a clean table, and what is left for a person. Assumes nothing.
+use mathlib.Core.Path.{_≡_, refl, sym, ap, _∙_, subst}
 use mathlib.Core.Logic.{_⊎_, inl, inr, _↔_}
 use mathlib.Core.Bool.{Bool, true, false, or-true}
 use mathlib.Core.List.{List, []}
-use Prim.Native.Nat.{ℕ, zero, suc, _≤_, _<_}
+use Prim.Native.Nat.{ℕ, zero, suc, _%_, _≤_, _<_}
 use native.Mathlib.Omega.{arith}
 use lib.Dec.{ltb}
 use lib.ListN.{length}
 use borrow.Author.Tests.{ltb-true, ltb-false, lt-ltb, le-ltb}
+use Rattle.problem.specs.declared.Fault.{Fault}
+use Rattle.problem.specs.declared.Fault.the-variants.{Sound}
 use Rattle.problem.specs.declared.Request.{Request}
-use Rattle.problem.specs.Table.{arcsOf}
+use Rattle.problem.specs.Table.{mostInTable, recordAt, arcOf, arcsOf, SoundArc, faultOf, faultNumber}
+use Rattle.problem.specs.Routes.{arcAt}
 use Rattle.problem.specs.Reply.{firstNumber, answerAround}
 use Rattle.problem.specs.Calls.{Applies}
-use Rattle.problem.specs.Mending.{mostFieldBytes, Clean, mendedTable, mendedList, roundedUp, Mending, mendChecks, mendingUnless, mending}
-use Rattle.problem.proofs.FaultLaws.{sound-none}
-use Rattle.problem.proofs.TableLaws.{sound-at}
+use Rattle.problem.specs.Mending.{mostFieldBytes, Clean, wholeArcs, faultAt, mayStay, newNumber, mendedTable, Change, mendedList, roundedUp, Mending, mendChecks, mendingUnless, mending, KeptAs, lost, Listed}
+use Rattle.problem.proofs.FaultLaws.{sound-none, arc-sound, fault-sound}
+use Rattle.problem.proofs.TableLaws.{arcs-at, sound-at}
+use Rattle.problem.proofs.MendLaws.{kept-record}
+use Rattle.problem.proofs.RefusalLaws.{Known}
 use Rattle.problem.proofs.CallLaws.{refused-told}
 
 -- ---- how a call ends
@@ -101,29 +106,67 @@ module _ (input : List ℕ) (tableSize listSize : ℕ) where
 
 -- ---- what the planner makes of a clean table
 
--- its number is none of those that a table is refused for
-abbrev pub NotForTheTable : ℕ → Type 0
-NotForTheTable n = (n ≡ 2 → ⊥) × (n ≡ 3 → ⊥) × (n ≤ 16)
+-- a number that is given, up to 16 and not 16, is at most 10
+pub to-ten : {n : ℕ} → Known n → n ≤ 16 → (n ≡ 16 → ⊥) → n ≤ 10
+to-ten (Known.to-ten low nine) top other = low
+to-ten Known.sixteen top other = absurd (other refl)
+to-ten (Known.of-an-arc low high) top other = absurd (omega arith)
+
+-- its number is none of those that a table is refused for, but for that of a blank
+abbrev pub ForBlanksAlone : ℕ → Type 0
+ForBlanksAlone n = (n ≡ 2 → ⊥) × (n ≡ 3 → ⊥) × ((n ≤ 16) ⊎ (n % 256 ≡ 24))
 
 module _ {table : List ℕ} (clean : Clean table) (closed : List ℕ) (q : Request) (size : ℕ) where
-  clean-applies : {t i : ℕ} → Applies table closed q size t i → NotForTheTable i
+  unless-blank : {n : ℕ} → (n ≡ 2 → ⊥) × (n ≡ 3 → ⊥) × (n ≤ 16) → ForBlanksAlone n
+  unless-blank h = (h .0, h .1, inl (h .2))
+
+  clean-applies : {t i : ℕ} → Applies table closed q size t i → ForBlanksAlone i
   clean-applies (Applies.table-too-long h) = absurd (omega (arith, clean .few-bytes))
   clean-applies (Applies.table-torn h) = absurd (h (clean .whole-arcs))
-  clean-applies (Applies.buffer-too-small h) = omega arith
-  clean-applies (Applies.source-too-high h) = omega arith
-  clean-applies (Applies.terminal-too-high h) = omega arith
-  clean-applies (Applies.ends-equal h) = omega arith
-  clean-applies (Applies.reach-too-far h) = omega arith
-  clean-applies (Applies.allowance-none h) = omega arith
-  clean-applies (Applies.allowance-too-large h) = omega arith
+  clean-applies (Applies.buffer-too-small h) = unless-blank (omega arith)
+  clean-applies (Applies.source-too-high h) = unless-blank (omega arith)
+  clean-applies (Applies.terminal-too-high h) = unless-blank (omega arith)
+  clean-applies (Applies.ends-equal h) = unless-blank (omega arith)
+  clean-applies (Applies.reach-too-far h) = unless-blank (omega arith)
+  clean-applies (Applies.allowance-none h) = unless-blank (omega arith)
+  clean-applies (Applies.allowance-too-large h) = unless-blank (omega arith)
   clean-applies (Applies.arc-faulty k f b h) = absurd (sound-none (sound-at (arcsOf table) (clean .sound) k b) h)
-  clean-applies (Applies.set-not-whole h) = omega arith
-  clean-applies (Applies.set-past-table k b h) = omega arith
-  clean-applies (Applies.no-route h) = omega arith
+  clean-applies (Applies.arc-blank k b h) = (λ e. omega arith, λ e. omega arith, inr (omega arith))
+  clean-applies (Applies.set-not-whole h) = unless-blank (omega arith)
+  clean-applies (Applies.set-past-table k b h) = unless-blank (omega arith)
+  clean-applies (Applies.no-route h) = unless-blank (omega arith)
 
-  pub clean-planned : NotForTheTable (answerAround table closed q size .number)
+  pub clean-planned : ForBlanksAlone (answerAround table closed q size .number)
   clean-planned = go (ltb (answerAround table closed q size .number) 2) refl
     where
-      go : (b : Bool) → ltb (answerAround table closed q size .number) 2 ≡ b → NotForTheTable (answerAround table closed q size .number)
-      go true e = let low = ltb-true (answerAround table closed q size .number) 2 e in omega arith
+      go : (b : Bool) → ltb (answerAround table closed q size .number) 2 ≡ b → ForBlanksAlone (answerAround table closed q size .number)
+      go true e = let low = ltb-true (answerAround table closed q size .number) 2 e in unless-blank (omega arith)
       go false e = clean-applies (refused-told table closed q size (ltb-false _ _ e) .applies)
+
+-- ---- what is left for a person
+
+-- a sound arc, blank or not, is kept as it is where there is room for it
+module _ (input : List ℕ) (k : ℕ) (whole : k < wholeArcs input) (sound : SoundArc (arcAt (arcsOf input) k)) (room : newNumber input k < mostInTable) where
+  here : arcAt (arcsOf input) k ≡ arcOf (recordAt input k)
+  here = arcs-at input k (omega arith)
+
+  no-fault : faultAt input k ≡ Sound
+  no-fault = ap faultOf (sym here) ∙ fault-sound (arcAt (arcsOf input) k) (arc-sound (arcAt (arcsOf input) k) sound)
+
+  pub sound-left : arcAt (arcsOf (mendedTable input)) (newNumber input k) ≡ arcAt (arcsOf input) k
+  sound-left =
+      let kept = kept-record input (record { is-whole = whole; may-stay = ap mayStay no-fault; in-turn = refl; has-room = room }) in
+      arcs-at (mendedTable input) (newNumber input k) (omega (arith, kept .0)) ∙ ap arcOf (kept .1) ∙ sym here
+
+  pub sound-unlisted : (reason : ℕ) → Listed input (lost k reason) → ⊥
+  sound-unlisted reason l = go refl l
+    where
+      faulty : {f : Fault} {j : ℕ} → faultAt input j ≡ f → j ≡ k → (faultNumber f ≡ 0 → ⊥) → ⊥
+      faulty is e some = some (ap faultNumber (sym is ∙ ap (faultAt input) e ∙ no-fault))
+
+      go : {c : Change} → c .old ≡ k → Listed input c → ⊥
+      go e (Listed.bad-node j b is) = faulty is e (λ z. omega arith)
+      go e (Listed.equal-ends j b is) = faulty is e (λ z. omega arith)
+      go e (Listed.bad-length j b is) = faulty is e (λ z. omega arith)
+      go e (Listed.past-limit j b is past) = omega (arith, ap (newNumber input) e)
+      go e (Listed.torn-end t) = omega arith

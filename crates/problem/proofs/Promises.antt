@@ -20,22 +20,24 @@ use Rattle.problem.specs.declared.Exposure.{Exposure}
 use Rattle.problem.specs.declared.Fault.{Fault}
 use Rattle.problem.specs.declared.Fault.the-variants.{Sound}
 use Rattle.problem.specs.declared.Request.{Request}
-use Rattle.problem.specs.Table.{lastNode, mostArcs, riskWidth, mostShared, mostReach, mostAllowance, replySize, Bytes, recordAt, arcsOf, SoundArc, HasFault, faultOf, faultNumber, allSound}
+use Rattle.problem.specs.Table.{lastNode, mostArcs, riskWidth, mostShared, mostReach, mostAllowance, mostInTable, replySize, Bytes, recordAt, arcsOf, SoundArc, HasFault, faultOf, faultNumber, allSound}
 use Rattle.problem.specs.Routes.{arcAt, metresOf, exposureOf, IsWay, IsPath, IsRoute, FreeWay, Route, routeOf, ranking, precedes}
 use Rattle.problem.specs.Spans.{mark, withSpan, spanless, markedArcs}
-use Rattle.problem.specs.Closed.{closedSize, closedIn, isOpen, noneClosed, shut, shutIn, plannedArcs}
+use Rattle.problem.specs.Blanks.{Blank}
+use Rattle.problem.specs.Closed.{closedSize, closedIn, isOpen, AllOpen, noneClosed, shut, shutIn, plannedArcs}
 use Rattle.problem.specs.Exposures.{spansIn}
 use Rattle.problem.specs.Pairs.{Pair, pair, sharedRisks, sharedCount, sharedSpans, total, judged, NoWorse, Step, ofRank, rankedKey, floor, every, leastSettled, ranked}
-use Rattle.problem.specs.Reply.{meshOver, meshOf, planned, refusal, ClosedSet, answerUnless, answerAround, answer, after, verdictIn, sharedIn, floorIn, sharedSpansIn, rankedIn, mainMetresIn, standbyMetresIn, totalIn, sharedRisksIn, mainIn, standbyIn}
+use Rattle.problem.specs.Reply.{meshOver, meshOf, planned, refusal, ClosedSet, plannedUnless, answerAround, answer, after, verdictIn, sharedIn, floorIn, sharedSpansIn, rankedIn, mainMetresIn, standbyMetresIn, totalIn, sharedRisksIn, mainIn, standbyIn}
 use Rattle.problem.specs.Printed.{kilometres, text, printed, requestOf, Unreadable, output}
 use Rattle.problem.specs.Mending.{mostFieldBytes, Clean, wholeArcs, newNumber, mendedTable, Change, mendedList, changesIn, oldNumber, KeptAs, lost, Listed}
-use Rattle.problem.specs.Calls.{routesOf, RouteOf, WayOf, pairMadeOf, pairSaid, allowing, Applies, Told, LowestFault, plannedUnless, answerByRisks, answerOverAll, AllOpen, ClosesAside}
+use Rattle.problem.specs.Calls.{routesOf, RouteOf, WayOf, pairMadeOf, pairSaid, allowing, Applies, Told, LowestFault, LowestBlank, answerByRisks, answerOverAll, answerWithBlanks, ClosesAside}
 use Rattle.problem.proofs.FaultLaws as FaultLaws
 use Rattle.problem.proofs.ByteLaws as ByteLaws
 use Rattle.problem.proofs.ExposureLaws.{spans-few}
 use Rattle.problem.proofs.SpanLaws as SpanLaws
 use Rattle.problem.proofs.ClosedLaws as ClosedLaws
-use Rattle.problem.proofs.ClosedLaws.{planned-heads, planned-range}
+use Rattle.problem.proofs.ClosedLaws.{planned-heads}
+use Rattle.problem.proofs.BlankLaws as BlankLaws
 use Rattle.problem.proofs.AroundLaws as AroundLaws
 use Rattle.problem.proofs.PathLaws as PathLaws
 use Rattle.problem.proofs.RankingLaws.{ranking-exact, ranking-strict}
@@ -79,7 +81,7 @@ module _ (table closed : List ℕ) (q : Request) (size : ℕ) where
       go f false e = absurd (f _ number (refused-told table closed q size (ltb-false number 2 e) .applies))
 
   -- "no route" exactly where, no earlier test holding, no route fits the reach
-  pub ten-exactly : ((t i : ℕ) → t < 11 → Applies table closed q size t i → ⊥) → (number ≡ 10) ↔ ((ks : List ℕ) → RouteOf table closed q ks → ⊥)
+  pub ten-exactly : ((t i : ℕ) → t < 12 → Applies table closed q size t i → ⊥) → (number ≡ 10) ↔ ((ks : List ℕ) → RouteOf table closed q ks → ⊥)
   ten-exactly below = no-route-exactly table closed q size below
 
   -- a refusal leaves every byte of the buffer
@@ -218,10 +220,10 @@ pub reply-within : (table closed : List ℕ) (q : Request) (size : ℕ) → numb
     → (mainMetresIn (reply table closed q size) ≤ mostReach) × (standbyMetresIn (reply table closed q size) ≤ mostReach)
 reply-within table closed q size h = Said.said-within (low-number table closed q size h)
 
--- and a reach of 62,000,000 metres sets no limit: the routes are all such lists from source to terminal
-pub largest-reach : (table closed : List ℕ) (q : Request) → allSound (arcsOf table) ≡ true → q .source ≤ lastNode → q .reach ≡ mostReach
-    → (ks : List ℕ) → RouteOf table closed q ks ↔ IsPath (plannedArcs table closed) (q .source) (q .terminal) ks
-largest-reach table closed q sound node e ks = (λ r. r .path, λ p. record { path = p; within-reach = omega (arith, planned-range table closed sound node p) })
+-- and a reach of 62,000,000 metres sets no limit: the routes are all such lists from source to terminal; with a closed set see `largest-reach-around`
+pub largest-reach : (table : List ℕ) (q : Request) → allSound (arcsOf table) ≡ true → q .reach ≡ mostReach
+    → (ks : List ℕ) → RouteOf table noneClosed q ks ↔ IsPath (markedArcs table) (q .source) (q .terminal) ks
+largest-reach table q sound e ks = rw (ClosedLaws.planned-unclosed table) (PathLaws.largest-reach (meshOver (markedArcs table) q) (SpanLaws.marked-sound (arcsOf table) sound) e ks)
 
 -- number 11 has ended: no call returns it
 pub never-eleven : (table closed : List ℕ) (q : Request) (size : ℕ) → number table closed q size ≡ 11 → ⊥
@@ -235,8 +237,9 @@ pub arc-named : (table closed : List ℕ) (q : Request) (size : ℕ) → ((t i :
     → (n i : ℕ) → 20 ≤ n → n ≤ 22 → (number table closed q size ≡ n + 256 * i) ↔ LowestFault (arcsOf table) i n
 arc-named = CallLaws.arc-named
 
--- so whatever number past 16 is given can be taken apart: divided by 256 it says the arc, and what remains says its first fault
-pub arc-apart : (table closed : List ℕ) (q : Request) (size : ℕ) → 16 < number table closed q size → LowestFault (arcsOf table) (number table closed q size / 256) (number table closed q size % 256)
+-- so whatever number past 10 is given, but for 16, can be taken apart: divided by 256 it says the arc, and what remains says its first fault, or that it is blank (T-09)
+pub arc-apart : (table closed : List ℕ) (q : Request) (size : ℕ) → let n = number table closed q size in 10 < n → (n ≡ 16 → ⊥)
+    → LowestFault (arcsOf table) (n / 256) (n % 256) ⊎ ((n % 256 ≡ 24) × LowestBlank (arcsOf table) (n / 256))
 arc-apart = CallLaws.arc-apart
 
 -- an arc's first fault is, of those that it has, that of the smallest number
@@ -255,12 +258,19 @@ never-nine table closed q size e = unknown (inl e) (number-known table closed q 
 -- ==== with an empty list, and mending twice gives the same table as once. Arc numbers shift, so the list must let a reader get every old number back."
 
 module _ (input : List ℕ) where
-  -- what comes out is clean, and the planner refuses it for none of its bytes
+  -- what comes out is clean, and the planner refuses it for none of its bytes but for a blank, which is left for a person (T-09)
   pub mended-clean : Clean (mendedTable input)
   mended-clean = MendLaws.table-clean input
 
-  pub mended-planned : (closed : List ℕ) (q : Request) (size : ℕ) → let n = answerAround (mendedTable input) closed q size .number in (n ≡ 2 → ⊥) × (n ≡ 3 → ⊥) × (n ≤ 16)
-  mended-planned = MendCallLaws.clean-planned mended-clean
+  pub mended-planned : (q : Request) (size : ℕ) → let n = answer (mendedTable input) q size .number in (n ≡ 2 → ⊥) × (n ≡ 3 → ⊥) × ((n ≤ 10) ⊎ (n % 256 ≡ 24))
+  mended-planned q size =
+      let for-blanks = MendCallLaws.clean-planned mended-clean noneClosed q size in
+      let not-sixteen = AroundLaws.never-sixteen (mendedTable input) q size in
+      (for-blanks .0, for-blanks .1, elim (for-blanks .2) [ inl low ↦ inl (MendCallLaws.to-ten (number-known (mendedTable input) noneClosed q size) low not-sixteen) | inr blank ↦ inr blank ])
+
+  -- nor does it with a closed set, other than for that set
+  pub mended-planned-around : (closed : List ℕ) (q : Request) (size : ℕ) → let n = answerAround (mendedTable input) closed q size .number in (n ≡ 2 → ⊥) × (n ≡ 3 → ⊥) × ((n ≤ 16) ⊎ (n % 256 ≡ 24))
+  mended-planned-around = MendCallLaws.clean-planned mended-clean
 
   -- a clean table comes out unchanged with an empty list, and only a clean one does; the list alone tells it, too
   pub unchanged-exactly : Clean input ↔ ((mendedTable input ≡ input) × (mendedList input ≡ []))
@@ -328,10 +338,10 @@ reply-most table closed q size h = Said.said-most (low-number table closed q siz
 
 -- a table with zero there answers as it does with spans left out of the definition; and then two ways share what risks they share, and no more
 pub as-before : (table closed : List ℕ) (q : Request) (size : ℕ) → ((k : ℕ) → k < length (arcsOf table) → arcAt (arcsOf table) k .span ≡ 0) → answerAround table closed q size ≡ answerByRisks table closed q size
-unfolding answerAround answerUnless
+unfolding answerAround plannedUnless
 as-before table closed q size none = go (refusal table closed q size)
   where
-    go : (n : ℕ) → answerUnless n table closed q ≡ plannedUnless n (shutIn (closedIn closed) (spanless (arcsOf table))) q
+    go : (n : ℕ) → plannedUnless n (plannedArcs table closed) q ≡ plannedUnless n (shutIn (closedIn closed) (spanless (arcsOf table))) q
     go zero = ap (λ (arcs : List Arc). planned (ranking (meshOver (shutIn (closedIn closed) arcs) q)) (q .allowance)) (SpanLaws.spanless-same (arcsOf table) none)
     go (suc n) = refl
 
@@ -363,15 +373,21 @@ closed-arc table closed k h = ClosedLaws.closed-at (closedIn closed) (markedArcs
 
 -- demands 2 and 3 speak of open arcs: the ways and the routes of a call are those of all arcs that go over open ones alone
 module _ (table closed : List ℕ) (q : Request) (sound : allSound (arcsOf table) ≡ true) (node : q .source ≤ lastNode) where
-  pub ways-open : (ks : List ℕ) → WayOf table closed q ks ↔ (IsWay (meshOver (markedArcs table) q) ks × AllOpen closed ks)
+  pub ways-open : (ks : List ℕ) → WayOf table closed q ks ↔ (IsWay (meshOver (markedArcs table) q) ks × AllOpen (closedIn closed) ks)
   ways-open = AroundLaws.ways-open table closed q sound node
 
-  pub routes-open : (ks : List ℕ) → RouteOf table closed q ks ↔ (IsRoute (meshOver (markedArcs table) q) ks × AllOpen closed ks)
+  pub routes-open : (ks : List ℕ) → RouteOf table closed q ks ↔ (IsRoute (meshOver (markedArcs table) q) ks × AllOpen (closedIn closed) ks)
   routes-open = AroundLaws.routes-open table closed q sound node
+
+  -- and where the reach sets no limit, the routes are all lists of open arcs from source to terminal that meet no node twice
+  pub largest-reach-around : q .reach ≡ mostReach → (ks : List ℕ) → RouteOf table closed q ks ↔ (IsPath (markedArcs table) (q .source) (q .terminal) ks × AllOpen (closedIn closed) ks)
+  largest-reach-around e ks =
+      let all = PathLaws.largest-reach (meshOver (markedArcs table) q) (SpanLaws.marked-sound (arcsOf table) sound) e ks in
+      (λ r. let o = routes-open ks .0 r in (all .0 (o .0), o .1), λ p. routes-open ks .1 (all .1 (p .0), p .1))
 
 -- settled: no two ways over open arcs do better
 pub open-no-better : (table closed : List ℕ) (q : Request) (size : ℕ) → number table closed q size ≡ 0
-    → (u v : List ℕ) → IsWay (meshOver (markedArcs table) q) u → AllOpen closed u → IsWay (meshOver (markedArcs table) q) v → AllOpen closed v
+    → (u v : List ℕ) → IsWay (meshOver (markedArcs table) q) u → AllOpen (closedIn closed) u → IsWay (meshOver (markedArcs table) q) v → AllOpen (closedIn closed) v
     → let p = pairMadeOf (markedArcs table) u v in NoWorse (sharedIn (reply table closed q size)) (totalIn (reply table closed q size)) (sharedCount p) (total p)
 open-no-better table closed q size e u v x open-u y open-v =
     let c = low-number table closed q size (omega arith) .passed .checked in
@@ -381,19 +397,19 @@ open-no-better table closed q size e u v x open-u y open-v =
 
 -- a closed arc gives no distance: nor do the ways free of something go over one
 pub distances-open : (table closed : List ℕ) → allSound (arcsOf table) ≡ true → (banned : Exposure) (terminal v : ℕ) → v ≤ lastNode → (ks : List ℕ)
-    → FreeWay (plannedArcs table closed) banned terminal v ks ↔ (FreeWay (markedArcs table) banned terminal v ks × AllOpen closed ks)
+    → FreeWay (plannedArcs table closed) banned terminal v ks ↔ (FreeWay (markedArcs table) banned terminal v ks × AllOpen (closedIn closed) ks)
 distances-open = AroundLaws.free-open
 
 -- no arc of a reply is closed
 pub reply-open : (table closed : List ℕ) (q : Request) (size : ℕ) → number table closed q size < 2
-    → AllOpen closed (mainIn (reply table closed q size)) × AllOpen closed (standbyIn (reply table closed q size))
+    → AllOpen (closedIn closed) (mainIn (reply table closed q size)) × AllOpen (closedIn closed) (standbyIn (reply table closed q size))
 reply-open table closed q size h =
     let c = low-number table closed q size h .passed .checked in
     let r = reply-routes table closed q size h in
     (routes-open table closed q (c .sound) (c .source-node) _ .0 (r .0) .1, routes-open table closed q (c .sound) (c .source-node) _ .0 (r .1) .1)
 
 -- 16 exactly where, no check before having told a number, the set is not 16 bytes or has a bit at or past the number of arcs
-pub sixteen-exactly : (table closed : List ℕ) (q : Request) (size : ℕ) → ((t i : ℕ) → t < 10 → Applies table closed q size t i → ⊥)
+pub sixteen-exactly : (table closed : List ℕ) (q : Request) (size : ℕ) → ((t i : ℕ) → t < 11 → Applies table closed q size t i → ⊥)
     → (number table closed q size ≡ 16) ↔ ((length closed ≡ closedSize → ⊥) ⊎ ((k : ℕ) × (length (arcsOf table) ≤ k) × (isOpen (closedIn closed) k ≡ false)))
 sixteen-exactly = CallLaws.set-exactly
 
@@ -413,6 +429,30 @@ never-sixteen = AroundLaws.never-sixteen
 pub closing-aside : (table closed more : List ℕ) (q : Request) (size : ℕ) → ClosedSet table closed → ClosedSet table more → ClosesAside table closed more q
     → answerAround table more q size ≡ answerAround table closed q size
 closing-aside table closed more q size s t c = AroundLaws.aside-same s t c size
+
+-- ==== Request T-09. "Refuse an arc of more than 0 metres with an empty risk field. D2 now refuses; arcs of 0 metres keep their blank. The mender and importer leave such arcs for a person.
+-- ==== Refusals: 24 plus 256 times the lowest such arc, looked for when no arc has a fault of T-02, before 16."
+
+module _ (table closed : List ℕ) (q : Request) (size : ℕ) where
+  -- once the checks before have passed, those of the arcs among them, the number is 24 + 256 i exactly where arc i, closed or not, is blank and no arc below it is
+  pub blank-named : ((t i : ℕ) → t < 10 → Applies table closed q size t i → ⊥) → (i : ℕ) → (number table closed q size ≡ 24 + 256 * i) ↔ LowestBlank (arcsOf table) i
+  blank-named = CallLaws.blank-named table closed q size
+
+  -- so nothing is answered while a risk field is blank
+  pub answered-listed : number table closed q size < 2 → (k : ℕ) → k < length (arcsOf table) → Blank (arcAt (arcsOf table) k) → ⊥
+  answered-listed h = BlankLaws.listed-at (arcsOf table) (low-number table closed q size h .passed .risks-listed)
+
+  -- a table without a blank arc answers as before; and so does any call that is not refused for one
+  pub otherwise-before : ((i : ℕ) → number table closed q size ≡ 24 + 256 * i → ⊥) → answerAround table closed q size ≡ answerWithBlanks table closed q size
+  otherwise-before = CallLaws.otherwise-before table closed q size
+
+  pub listed-before : ((k : ℕ) → k < length (arcsOf table) → Blank (arcAt (arcsOf table) k) → ⊥) → answerAround table closed q size ≡ answerWithBlanks table closed q size
+  listed-before none = otherwise-before (λ i e. let l = CallLaws.blank-told table closed q size i e in none i (l .inside) (l .blank))
+
+-- the mender leaves such an arc for a person: one that has no fault is kept as it is where there is room for it, whatever its risks, and the list says nothing of it
+pub blank-left : (input : List ℕ) (k : ℕ) → k < wholeArcs input → SoundArc (arcAt (arcsOf input) k) → newNumber input k < mostInTable
+    → (arcAt (arcsOf (mendedTable input)) (newNumber input k) ≡ arcAt (arcsOf input) k) × ((reason : ℕ) → Listed input (lost k reason) → ⊥)
+blank-left input k whole sound room = (MendCallLaws.sound-left input k whole sound room, MendCallLaws.sound-unlisted input k whole sound room)
 
 -- ==== Of any pair, and of any length
 

@@ -1,5 +1,5 @@
 -- Refusals, in the order of the checks: a number's own test holds, none of an earlier turn, and in its turn none of a smaller number. The tests are asked one after
--- the other, down the definition's own order; the turn of the arcs tells the first faulty one. Assumes nothing.
+-- the other, down the definition's own order; the turns of the arcs tell the first faulty one, and the first blank one. Assumes nothing.
 use mathlib.Core.Path.{_≡_, refl, sym, ap, _∙_, subst}
 use mathlib.Core.Logic.{_⊎_, inl, inr}
 use mathlib.Core.Bool.{Bool, true, false, _||_, not}
@@ -18,18 +18,20 @@ use Rattle.problem.specs.declared.Fault.{Fault}
 use Rattle.problem.specs.declared.Request.{Request}
 use Rattle.problem.specs.Table.{lastNode, mostReach, mostAllowance, mostTableBytes, replySize, arcsOf, HasFault, faultOf, faultNumber, arcNumber, arcsNumber, allSound}
 use Rattle.problem.specs.Routes.{arcAt}
+use Rattle.problem.specs.Blanks.{Blank, blanksNumber, noneBlank}
 use Rattle.problem.specs.Closed.{closedSize, closedIn}
-use Rattle.problem.specs.Reply.{firstNumber, sizeChecks, requestChecks, arcChecks, closedChecks, refusal, Passed}
-use Rattle.problem.specs.Calls.{RouteOf, Applies, Told, LowestFault}
+use Rattle.problem.specs.Reply.{firstNumber, sizeChecks, requestChecks, arcChecks, blankChecks, closedChecks, refusal, Passed}
+use Rattle.problem.specs.Calls.{RouteOf, Applies, Told, LowestFault, LowestBlank}
 use Rattle.problem.proofs.ToldLaws.{First, first}
 use Rattle.problem.proofs.FaultLaws.{Faulty, fault-had, fault-first, fault-range, sound-none, sound-arc, faulty-number}
 use Rattle.problem.proofs.TableLaws.{arcs-length, sound-at}
+use Rattle.problem.proofs.BlankLaws.{lowest-told, listed-at}
 
--- where the numbers that are returned lie: none is 9, or of 11 to 19 but for 16, or past the last fault of arc 127
+-- where the numbers that are returned lie: none is 9, or of 11 to 19 but for 16, or past a blank at arc 127
 pub data Known : ℕ → Type 0 where
   to-ten : {n : ℕ} → n ≤ 10 → (n ≡ 9 → ⊥) → Known n
   sixteen : Known 16
-  of-an-arc : {n : ℕ} → 20 ≤ n → n ≤ 23 + 256 * 127 → Known n
+  of-an-arc : {n : ℕ} → 20 ≤ n → n ≤ 24 + 256 * 127 → Known n
 
 pub unknown : {n : ℕ} → (n ≡ 9) ⊎ ((10 < n) × (n < 16)) → Known n → ⊥
 unknown (inl nine) (Known.to-ten low other) = other nine
@@ -49,12 +51,13 @@ module _ (table closed : List ℕ) (q : Request) (size : ℕ) where
   abbrev pub NoneBefore : ℕ → Type 0
   NoneBefore turn = (t i : ℕ) → t < turn → Applies table closed q size t i → ⊥
 
-  -- each turn but that of the arcs has one number alone
+  -- what each turn gives
   data Turn : (turn number : ℕ) → Type 0 where
     own : (n : ℕ) → (2 ≤ n) × (n ≤ 8) → Turn n n
     of-arc : (k : ℕ) (f : Fault) → k < length arcs → HasFault (arcAt arcs k) f → Turn 9 (faultNumber f + 256 * k)
-    of-set : Turn 10 16
-    last : Turn 11 10
+    of-blank : (k : ℕ) → k < length arcs → Blank (arcAt arcs k) → Turn 10 (24 + 256 * k)
+    of-set : Turn 11 16
+    last : Turn 12 10
 
   turn-of : {t i : ℕ} → Applies table closed q size t i → Turn t i
   turn-of (Applies.table-too-long h) = own 2 (omega arith)
@@ -67,6 +70,7 @@ module _ (table closed : List ℕ) (q : Request) (size : ℕ) where
   turn-of (Applies.allowance-none h) = own 8 (omega arith)
   turn-of (Applies.allowance-too-large h) = own 8 (omega arith)
   turn-of (Applies.arc-faulty k f b h) = of-arc k f b h
+  turn-of (Applies.arc-blank k b h) = of-blank k b h
   turn-of (Applies.set-not-whole h) = of-set
   turn-of (Applies.set-past-table k b h) = of-set
   turn-of (Applies.no-route h) = last
@@ -74,35 +78,44 @@ module _ (table closed : List ℕ) (q : Request) (size : ℕ) where
   from-two : {t i : ℕ} → Turn t i → (2 ≤ t) × (2 ≤ i)
   from-two (own n h) = (h .0, h .0)
   from-two (of-arc k f b h) = (omega arith, omega (arith, fault-first (arcAt arcs k) h))
+  from-two (of-blank k b h) = (omega arith, omega arith)
   from-two of-set = (omega arith, omega arith)
   from-two last = (omega arith, omega arith)
 
-  -- the one number of a turn
-  abbrev numberOf : ℕ → ℕ
-  numberOf t = if eqb t 10 then 16 else (if eqb t 11 then 10 else t)
+  -- each turn but the two of the arcs has one number alone, and which
+  abbrev pub Single : ℕ → Type 0
+  Single t = (t < 9) ⊎ (10 < t)
 
-  single : {t i : ℕ} → (t ≡ 9 → ⊥) → Turn t i → i ≡ numberOf t
-  single other (own n h) = rw (ne-eqb n 10 (λ e. omega (arith, h .1)), ne-eqb n 11 (λ e. omega (arith, h .1)))
-  single other (of-arc k f b h) = absurd (other refl)
-  single other of-set = refl
-  single other last = refl
+  abbrev numberOf : ℕ → ℕ
+  numberOf t = if eqb t 11 then 16 else (if eqb t 12 then 10 else t)
+
+  single : {t i : ℕ} → Single t → Turn t i → i ≡ numberOf t
+  single s (own n h) = rw (ne-eqb n 11 (λ e. omega (arith, h .1)), ne-eqb n 12 (λ e. omega (arith, h .1)))
+  single (inl low) (of-arc k f b h) = absurd (omega arith)
+  single (inr high) (of-arc k f b h) = absurd (omega arith)
+  single (inl low) (of-blank k b h) = absurd (omega arith)
+  single (inr high) (of-blank k b h) = absurd (omega arith)
+  single s of-set = refl
+  single s last = refl
 
   -- the turns of 16 and of 10
-  pub turn-sixteen : {t : ℕ} → Applies table closed q size t 16 → t ≡ 10
+  pub turn-sixteen : {t : ℕ} → Applies table closed q size t 16 → t ≡ 11
   turn-sixteen a = go refl (turn-of a)
     where
-      go : {t n : ℕ} → n ≡ 16 → Turn t n → t ≡ 10
+      go : {t n : ℕ} → n ≡ 16 → Turn t n → t ≡ 11
       go e (own n h) = absurd (omega (arith, h .1))
       go e (of-arc k f b h) = absurd (omega (arith, fault-first (arcAt arcs k) h))
+      go e (of-blank k b h) = absurd (omega arith)
       go e of-set = refl
       go e last = absurd (omega arith)
 
-  pub turn-ten : {t : ℕ} → Applies table closed q size t 10 → t ≡ 11
+  pub turn-ten : {t : ℕ} → Applies table closed q size t 10 → t ≡ 12
   turn-ten a = go refl (turn-of a)
     where
-      go : {t n : ℕ} → n ≡ 10 → Turn t n → t ≡ 11
+      go : {t n : ℕ} → n ≡ 10 → Turn t n → t ≡ 12
       go e (own n h) = absurd (omega (arith, h .1))
       go e (of-arc k f b h) = absurd (omega (arith, fault-first (arcAt arcs k) h))
+      go e (of-blank k b h) = absurd (omega arith)
       go e of-set = absurd (omega arith)
       go e last = refl
 
@@ -110,8 +123,8 @@ module _ (table closed : List ℕ) (q : Request) (size : ℕ) where
   told-two told = from-two (turn-of (told .applies)) .1
 
   -- a number that is told by a turn that has it alone
-  pub told-own : {t n : ℕ} → (t ≡ 9 → ⊥) → Applies table closed q size t n → NoneBefore t → Told table closed q size n
-  told-own {t} other a below = record { turn = t; applies = a; none-before = below; none-smaller = λ i l b. omega (arith, single other (turn-of a), single other (turn-of b)) }
+  pub told-own : {t n : ℕ} → Single t → Applies table closed q size t n → NoneBefore t → Told table closed q size n
+  told-own {t} s a below = record { turn = t; applies = a; none-before = below; none-smaller = λ i l b. omega (arith, single s (turn-of a), single s (turn-of b)) }
 
   -- but one number is told
   pub told-same : {m n : ℕ} → Told table closed q size m → Told table closed q size n → m ≡ n
@@ -123,7 +136,7 @@ module _ (table closed : List ℕ) (q : Request) (size : ℕ) where
       let not-more : n < m → ⊥ = λ l. a .none-smaller n l (subst (λ (t : ℕ). Applies table closed q size t n) (sym same) (b .applies)) in
       omega arith
 
-  -- ---- the turn of the arcs
+  -- ---- the turns of the arcs
 
   -- the first faulty arc is told with its first fault, where no turn before comes to a number
   pub told-faulty : NoneBefore 9 → {k : ℕ} → Faulty arcs k → Told table closed q size (arcNumber (arcAt arcs k) + 256 * k)
@@ -142,9 +155,16 @@ module _ (table closed : List ℕ) (q : Request) (size : ℕ) where
           let same : j ≡ k = omega (arith, fault-range (faultOf (arcAt arcs k))) in
           omega (arith, first .1, ap (λ (x : ℕ). arcNumber (arcAt arcs x)) same)
 
-  -- a number past 16 that is told, taken apart, says the lowest faulty arc and its first fault
-  pub told-lowest : {m : ℕ} → 16 < m → Told table closed q size m → (i n : ℕ) → n < 256 → m ≡ n + 256 * i → LowestFault arcs i n
-  told-lowest past told i n low e = go past (turn-of (told .applies)) (told .none-smaller) e
+  -- and the first blank arc
+  pub told-blank : NoneBefore 10 → {k : ℕ} → LowestBlank arcs k → Told table closed q size (24 + 256 * k)
+  told-blank below {k} l = record { turn = 10; applies = Applies.arc-blank k (l .inside) (l .blank); none-before = below; none-smaller = smaller }
+    where
+      smaller : (i : ℕ) → i < 24 + 256 * k → Applies table closed q size 10 i → ⊥
+      smaller i s (Applies.arc-blank j b h) = l .none-below j (omega arith) h
+
+  -- a number past 10 that is told, but for 16, taken apart, says the lowest faulty arc and its first fault, or the lowest blank arc
+  pub told-lowest : {m : ℕ} → 10 < m → (m ≡ 16 → ⊥) → Told table closed q size m → (i n : ℕ) → n < 256 → m ≡ n + 256 * i → LowestFault arcs i n ⊎ ((n ≡ 24) × LowestBlank arcs i)
+  told-lowest past other told i n low e = go past other (turn-of (told .applies)) (told .none-smaller) e
     where
       lowest : (k : ℕ) (f : Fault) → k < length arcs → HasFault (arcAt arcs k) f → ((j : ℕ) → j < faultNumber f + 256 * k → Applies table closed q size 9 j → ⊥) → LowestFault arcs k (faultNumber f)
       lowest k f b h none =
@@ -161,14 +181,18 @@ module _ (table closed : List ℕ) (q : Request) (size : ℕ) where
               let no-number : 0 < arcNumber (arcAt arcs j) → ⊥ = λ some. none (arcNumber (arcAt arcs j) + 256 * j) (omega arith) (at j (omega arith) (λ z. omega arith)) in
               omega arith
 
-      go : {t m : ℕ} → 16 < m → Turn t m → ((j : ℕ) → j < m → Applies table closed q size t j → ⊥) → m ≡ n + 256 * i → LowestFault arcs i n
-      go past (own m h) none e = absurd (omega (arith, h .1))
-      go past (of-arc k f b h) none e =
+      go : {t m : ℕ} → 10 < m → (m ≡ 16 → ⊥) → Turn t m → ((j : ℕ) → j < m → Applies table closed q size t j → ⊥) → m ≡ n + 256 * i → LowestFault arcs i n ⊎ ((n ≡ 24) × LowestBlank arcs i)
+      go past other (own m h) none e = absurd (omega (arith, h .1))
+      go past other (of-arc k f b h) none e =
           let arc-is : k ≡ i = omega (arith, fault-range f) in
           let fault-is : faultNumber f ≡ n = omega (arith, fault-range f) in
-          subst (λ (j : ℕ). LowestFault arcs j n) arc-is (subst (LowestFault arcs k) fault-is (lowest k f b h none))
-      go past of-set none e = absurd (omega arith)
-      go past last none e = absurd (omega arith)
+          inl (subst (λ (j : ℕ). LowestFault arcs j n) arc-is (subst (LowestFault arcs k) fault-is (lowest k f b h none)))
+      go past other (of-blank k b h) none e =
+          let arc-is : k ≡ i = omega arith in
+          let below : (j : ℕ) → j < k → Blank (arcAt arcs j) → ⊥ = λ j l x. none (24 + 256 * j) (omega arith) (Applies.arc-blank j (omega arith) x) in
+          inr (omega arith, subst (LowestBlank arcs) arc-is (record { inside = b; blank = h; none-below = below }))
+      go past other of-set none e = absurd (other refl)
+      go past other last none e = absurd (omega arith)
 
   pub told-known : {n : ℕ} → Told table closed q size n → Known n
   told-known told = go (turn-of (told .applies)) (told .none-before)
@@ -178,6 +202,9 @@ module _ (table closed : List ℕ) (q : Request) (size : ℕ) where
       go (of-arc k f b h) before =
           let few : mostTableBytes < length table → ⊥ = λ l. before 2 2 (omega arith) (Applies.table-too-long l) in
           Known.of-an-arc {n = faultNumber f + 256 * k} (omega (arith, fault-first (arcAt arcs k) h)) (omega (arith, fault-range f, arcs-length table))
+      go (of-blank k b h) before =
+          let few : mostTableBytes < length table → ⊥ = λ l. before 2 2 (omega arith) (Applies.table-too-long l) in
+          Known.of-an-arc {n = 24 + 256 * k} (omega arith) (omega (arith, arcs-length table))
       go of-set before = Known.sixteen
       go last before = Known.to-ten {n = 10} (omega arith) (λ nine. omega arith)
 
@@ -191,12 +218,12 @@ module _ (table closed : List ℕ) (q : Request) (size : ℕ) where
       fails i (subst (λ (s : ℕ). Applies table closed q size s i) same a)
 
   -- one row of the order: its number is told where its test holds; else what follows it decides
-  row : {n next : ℕ} (m : ℕ) → (m ≡ 9 → ⊥) → (test : Bool) → NoneBefore m → (test ≡ true → Applies table closed q size m m) → (test ≡ false → (i : ℕ) → Applies table closed q size m i → ⊥)
+  row : {n next : ℕ} (m : ℕ) → m < 9 → (test : Bool) → NoneBefore m → (test ≡ true → Applies table closed q size m m) → (test ≡ false → (i : ℕ) → Applies table closed q size m i → ⊥)
       → (NoneBefore (suc m) → next ≡ n → Told table closed q size n) → (if test then m else next) ≡ n → Told table closed q size n
-  row m other true below holds fails on e = subst (Told table closed q size) e (told-own other (holds refl) below)
-  row m other false below holds fails on e = on (none-next m below (fails refl)) e
+  row m low true below holds fails on e = subst (Told table closed q size) e (told-own (inl low) (holds refl) below)
+  row m low false below holds fails on e = on (none-next m below (fails refl)) e
 
-  -- the row of the arcs, and that of the closed set behind it
+  -- the row of faulty arcs, that of blank ones behind it, and that of the closed set
   arcs-row : {n next : ℕ} (b : Bool) → allSound arcs ≡ b → NoneBefore 9 → (NoneBefore 10 → next ≡ suc n → Told table closed q size (suc n)) → (if not b then arcsNumber arcs else next) ≡ suc n
       → Told table closed q size (suc n)
   unfolding arcsNumber
@@ -210,29 +237,40 @@ module _ (table closed : List ℕ) (q : Request) (size : ℕ) where
       go (First.none f z) = absurd (omega (arith, sym z ∙ e))
       go (First.one k f is) = subst (Told table closed q size) (sym (faulty-number arcs f) ∙ e) (told-faulty below f)
 
+  blanks-row : {n next : ℕ} (b : Bool) → noneBlank arcs ≡ b → NoneBefore 10 → (NoneBefore 11 → next ≡ suc n → Told table closed q size (suc n)) → (if not b then blanksNumber arcs else next) ≡ suc n
+      → Told table closed q size (suc n)
+  blanks-row true s below on e = on (none-next 10 below none) e
+    where
+      none : (i : ℕ) → Applies table closed q size 10 i → ⊥
+      none i (Applies.arc-blank k b h) = listed-at arcs s k b h
+  blanks-row false s below on e =
+      let t = lowest-told arcs (λ z. omega (arith, sym z ∙ e)) in
+      subst (Told table closed q size) (sym (t .2) ∙ e) (told-blank below (t .1))
+
   -- what the closed set is refused for
-  set-applies : (b : Bool) → eqb (length closed) closedSize ≡ b → (not b || not (ltb (closedIn closed) (2 ^ length arcs))) ≡ true → Applies table closed q size 10 16
+  set-applies : (b : Bool) → eqb (length closed) closedSize ≡ b → (not b || not (ltb (closedIn closed) (2 ^ length arcs))) ≡ true → Applies table closed q size 11 16
   set-applies false e t = Applies.set-not-whole (eqb-false _ _ e)
   set-applies true e t =
       let past = element-past (length arcs) (closedIn closed) (ltb-false (closedIn closed) (2 ^ length arcs) (not-true _ t)) in
       Applies.set-past-table (past .place) (past .from) (ne-eqb (bit (closedIn closed) (past .place)) 0 (λ z. omega (arith, past .is-in)))
 
-  set-row : {n : ℕ} (b : Bool) → (not (eqb (length closed) closedSize) || not (ltb (closedIn closed) (2 ^ length arcs))) ≡ b → NoneBefore 10 → (if b then 16 else 0) ≡ suc n → Told table closed q size (suc n)
-  set-row true t below e = subst (Told table closed q size) e (told-own (λ nine. omega arith) (set-applies (eqb (length closed) closedSize) refl t) below)
+  set-row : {n : ℕ} (b : Bool) → (not (eqb (length closed) closedSize) || not (ltb (closedIn closed) (2 ^ length arcs))) ≡ b → NoneBefore 11 → (if b then 16 else 0) ≡ suc n → Told table closed q size (suc n)
+  set-row true t below e = subst (Told table closed q size) e (told-own (inr (omega arith)) (set-applies (eqb (length closed) closedSize) refl t) below)
   set-row false t below e = absurd (omega arith)
 
   -- a refusal by a check is that of the first whose test holds
   pub refusal-told : (n : ℕ) → refusal table closed q size ≡ suc n → Told table closed q size (suc n)
-  unfolding refusal sizeChecks requestChecks arcChecks closedChecks firstNumber
+  unfolding refusal sizeChecks requestChecks arcChecks blankChecks closedChecks firstNumber
   refusal-told n e =
-      row 2 (λ e. omega arith) (ltb mostTableBytes (length table)) (λ t i l a. omega (arith, from-two (turn-of a))) (λ t. Applies.table-too-long (ltb-true _ _ t)) long
-      (λ below. row 3 (λ e. omega arith) (not (eqb (length table % 16) 0)) below (λ t. Applies.table-torn (eqb-false _ _ (not-true _ t))) torn
-      (λ below. row 4 (λ e. omega arith) (ltb size replySize) below (λ t. Applies.buffer-too-small (ltb-true _ _ t)) small
-      (λ below. row 5 (λ e. omega arith) (ltb lastNode (q .source) || ltb lastNode (q .terminal)) below high no-high
-      (λ below. row 6 (λ e. omega arith) (eqb (q .source) (q .terminal)) below (λ t. Applies.ends-equal (eqb-true _ _ t)) equal
-      (λ below. row 7 (λ e. omega arith) (ltb mostReach (q .reach)) below (λ t. Applies.reach-too-far (ltb-true _ _ t)) far
-      (λ below. row 8 (λ e. omega arith) (eqb (q .allowance) 0 || ltb mostAllowance (q .allowance)) below allowed not-allowed
-      (λ below. arcs-row (allSound (arcsOf table)) refl below (set-row _ refl)))))))) e
+      row 2 (omega arith) (ltb mostTableBytes (length table)) (λ t i l a. omega (arith, from-two (turn-of a))) (λ t. Applies.table-too-long (ltb-true _ _ t)) long
+      (λ below. row 3 (omega arith) (not (eqb (length table % 16) 0)) below (λ t. Applies.table-torn (eqb-false _ _ (not-true _ t))) torn
+      (λ below. row 4 (omega arith) (ltb size replySize) below (λ t. Applies.buffer-too-small (ltb-true _ _ t)) small
+      (λ below. row 5 (omega arith) (ltb lastNode (q .source) || ltb lastNode (q .terminal)) below high no-high
+      (λ below. row 6 (omega arith) (eqb (q .source) (q .terminal)) below (λ t. Applies.ends-equal (eqb-true _ _ t)) equal
+      (λ below. row 7 (omega arith) (ltb mostReach (q .reach)) below (λ t. Applies.reach-too-far (ltb-true _ _ t)) far
+      (λ below. row 8 (omega arith) (eqb (q .allowance) 0 || ltb mostAllowance (q .allowance)) below allowed not-allowed
+      (λ below. arcs-row (allSound (arcsOf table)) refl below
+      (λ below. blanks-row (noneBlank (arcsOf table)) refl below (set-row _ refl))))))))) e
     where
       long : ltb mostTableBytes (length table) ≡ false → (i : ℕ) → Applies table closed q size 2 i → ⊥
       long t i (Applies.table-too-long h) = omega (arith, ltb-false mostTableBytes (length table) t)
@@ -264,7 +302,7 @@ module _ (table closed : List ℕ) (q : Request) (size : ℕ) where
       not-allowed t i (Applies.allowance-too-large h) = omega (arith, ltb-false mostAllowance (q .allowance) (neither (eqb (q .allowance) 0) (ltb mostAllowance (q .allowance)) t .1))
 
   -- where the checks have passed, the one test that can still hold is that of 10
-  pub passed-ten : Passed table closed q size → {t i : ℕ} → Applies table closed q size t i → (t ≡ 11) × ((ks : List ℕ) → RouteOf table closed q ks → ⊥)
+  pub passed-ten : Passed table closed q size → {t i : ℕ} → Applies table closed q size t i → (t ≡ 12) × ((ks : List ℕ) → RouteOf table closed q ks → ⊥)
   passed-ten p (Applies.table-too-long h) = absurd (omega (arith, p .checked .few-bytes))
   passed-ten p (Applies.table-torn h) = absurd (h (p .checked .whole-arcs))
   passed-ten p (Applies.buffer-too-small h) = absurd (omega (arith, p .room))
@@ -275,9 +313,10 @@ module _ (table closed : List ℕ) (q : Request) (size : ℕ) where
   passed-ten p (Applies.allowance-none h) = absurd (omega (arith, p .checked .some-allowance))
   passed-ten p (Applies.allowance-too-large h) = absurd (omega (arith, p .checked .allowance-range))
   passed-ten p (Applies.arc-faulty k f b h) = absurd (sound-none (sound-at arcs (p .checked .sound) k b) h)
+  passed-ten p (Applies.arc-blank k b h) = absurd (listed-at arcs (p .risks-listed) k b h)
   passed-ten p (Applies.set-not-whole h) = absurd (h (p .closed-set .whole))
   passed-ten p (Applies.set-past-table k b h) = absurd (eqb-false _ 0 h (bit-past (length arcs) (closedIn closed) k (p .closed-set .inside) b))
   passed-ten p (Applies.no-route h) = (refl, h)
 
-  pub passed-before : Passed table closed q size → NoneBefore 11
+  pub passed-before : Passed table closed q size → NoneBefore 12
   passed-before p t i l a = omega (arith, passed-ten p a .0)

@@ -12,13 +12,15 @@ use Rattle.laws.specs.Choosing.{if_then_else_}
 use Rattle.laws.proofs.BoolLaws.{neither}
 use Rattle.problem.specs.declared.Request.{Request}
 use Rattle.problem.specs.Table.{lastNode, mostArcs, mostReach, mostAllowance, mostTableBytes, replySize, bytesOf, arcsOf, arcsNumber, allSound}
-use Rattle.problem.specs.Closed.{closedSize, closedIn}
+use Rattle.problem.specs.Blanks.{blanksNumber, noneBlank}
+use Rattle.problem.specs.Closed.{closedSize, closedIn, plannedArcs}
 use Rattle.problem.specs.Routes.{Route}
 use Rattle.problem.specs.Pairs.{Step, Pair, sharedRisks, sharedCount, sharedSpans, floor, every, best, ranked, verdict}
-use Rattle.problem.specs.Reply.{Answer, refuse, placesOf, replyOf, verdictIn, sharedIn, floorIn, sharedSpansIn, rankedIn, mainMetresIn, standbyMetresIn, sharedRisksIn, mainIn, standbyIn, firstNumber, sizeChecks, requestChecks, arcChecks, closedChecks, refusal, ClosedSet, Passed, planned, answerUnless, answerAround}
+use Rattle.problem.specs.Reply.{Answer, refuse, placesOf, replyOf, verdictIn, sharedIn, floorIn, sharedSpansIn, rankedIn, mainMetresIn, standbyMetresIn, sharedRisksIn, mainIn, standbyIn, firstNumber, sizeChecks, requestChecks, arcChecks, blankChecks, closedChecks, refusal, ClosedSet, Passed, planned, plannedUnless, answerAround}
 use Rattle.problem.specs.Calls.{routesOf, Told}
 use Rattle.problem.proofs.ByteLaws.{field-at}
 use Rattle.problem.proofs.TableLaws.{number-sound}
+use Rattle.problem.proofs.BlankLaws.{number-listed}
 use Rattle.problem.proofs.RefusalLaws.{refusal-told}
 use Rattle.problem.proofs.SettleLaws.{least-settled-step}
 
@@ -28,13 +30,10 @@ not-first : (b : Bool) (n r : ℕ) → (if b then suc n else r) ≡ 0 → (b ≡
 not-first true n r e = absurd (omega arith)
 not-first false n r e = (refl, e)
 
--- of the arcs: where no number is told, all are sound
-arcs-passed : (table : List ℕ) (next n : ℕ) → (if not (allSound (arcsOf table)) then arcsNumber (arcsOf table) else next) ≡ n → n ≡ 0 → (allSound (arcsOf table) ≡ true) × (next ≡ 0)
-arcs-passed table next n e z = go (allSound (arcsOf table)) refl
-  where
-    go : (b : Bool) → allSound (arcsOf table) ≡ b → (allSound (arcsOf table) ≡ true) × (next ≡ 0)
-    go true f = let given : next ≡ n = rw f at e in (f, given ∙ z)
-    go false f = let none : arcsNumber (arcsOf table) ≡ n = rw f at e in absurd (true≢false (sym (number-sound (arcsOf table) (none ∙ z)) ∙ f))
+-- a check whose test asks whether its number is 0: where no number is told, its own is none
+quiet : (b : Bool) (m next : ℕ) → (m ≡ 0 → b ≡ true) → (if not b then m else next) ≡ 0 → (b ≡ true) × (next ≡ 0)
+quiet true m next own e = (refl, e)
+quiet false m next own e = absurd (true≢false (sym (own e)))
 
 -- of the closed set, the last check
 set-passed : (table closed : List ℕ) → (not (eqb (length closed) closedSize) || not (ltb (closedIn closed) (2 ^ length (arcsOf table)))) ≡ false → ClosedSet table closed
@@ -43,7 +42,7 @@ set-passed table closed e =
     record { whole = eqb-true (length closed) closedSize (not-false _ (both .0)); inside = ltb-true (closedIn closed) (2 ^ length (arcsOf table)) (not-false _ (both .1)) }
 
 pub refusal-passed : (table closed : List ℕ) (q : Request) (size : ℕ) → refusal table closed q size ≡ 0 → Passed table closed q size
-unfolding refusal sizeChecks requestChecks arcChecks closedChecks firstNumber
+unfolding refusal sizeChecks requestChecks arcChecks blankChecks closedChecks firstNumber
 refusal-passed table closed q size e =
     let a = not-first (ltb mostTableBytes (length table)) 1 _ e in
     let b = not-first (not (eqb (length table % 16) 0)) 2 _ (a .1) in
@@ -52,8 +51,9 @@ refusal-passed table closed q size e =
     let f = not-first (eqb (q .source) (q .terminal)) 5 _ (d .1) in
     let g = not-first (ltb mostReach (q .reach)) 6 _ (f .1) in
     let h = not-first (eqb (q .allowance) 0 || ltb mostAllowance (q .allowance)) 7 _ (g .1) in
-    let i = arcs-passed table _ 0 (h .1) refl in
-    let j = not-first (not (eqb (length closed) closedSize) || not (ltb (closedIn closed) (2 ^ length (arcsOf table)))) 15 _ (i .1) in
+    let i = quiet (allSound (arcsOf table)) (arcsNumber (arcsOf table)) _ (number-sound (arcsOf table)) (h .1) in
+    let k = quiet (noneBlank (arcsOf table)) (blanksNumber (arcsOf table)) _ (number-listed (arcsOf table)) (i .1) in
+    let j = not-first (not (eqb (length closed) closedSize) || not (ltb (closedIn closed) (2 ^ length (arcsOf table)))) 15 _ (k .1) in
     let nodes = neither (ltb lastNode (q .source)) (ltb lastNode (q .terminal)) (d .0) in
     let allowed = neither (eqb (q .allowance) 0) (ltb mostAllowance (q .allowance)) (h .0) in
     record {
@@ -68,12 +68,13 @@ refusal-passed table closed q size e =
         allowance-range = ltb-false mostAllowance (q .allowance) (allowed .1);
         sound = i .0;
       };
+      risks-listed = k .0;
       closed-set = set-passed table closed (j .0);
       room = ltb-false size replySize (c .0);
     }
 
 pub passed-refusal : {table closed : List ℕ} {q : Request} {size : ℕ} → Passed table closed q size → refusal table closed q size ≡ 0
-unfolding refusal sizeChecks requestChecks arcChecks closedChecks firstNumber
+unfolding refusal sizeChecks requestChecks arcChecks blankChecks closedChecks firstNumber
 passed-refusal {table} {closed} {q} {size} p =
     let c = p .checked in
     rw (
@@ -87,6 +88,7 @@ passed-refusal {table} {closed} {q} {size} p =
       ne-eqb (q .allowance) 0 (λ e. omega (arith, c .some-allowance)),
       le-ltb mostAllowance (q .allowance) (c .allowance-range),
       c .sound,
+      p .risks-listed,
       eq-eqb (length closed) closedSize (p .closed-set .whole),
       lt-ltb (closedIn closed) (2 ^ length (arcsOf table)) (p .closed-set .inside),
     )
@@ -130,7 +132,7 @@ planned-some [] allowance h = absurd (omega arith)
 planned-some (r ∷ routes) allowance h = refl
 
 pub outcome : (table closed : List ℕ) (q : Request) (size : ℕ) → Outcome table closed q size
-unfolding answerAround answerUnless
+unfolding answerAround plannedUnless
 outcome table closed q size = by-number (refusal table closed q size) refl
   where
     by-length : Passed table closed q size → (n : ℕ) → length (routesOf table closed q) ≡ n → planned (routesOf table closed q) (q .allowance) ≡ answerAround table closed q size → Outcome table closed q size
@@ -138,8 +140,8 @@ outcome table closed q size = by-number (refusal table closed q size) refl
     by-length p (suc n) e f = let some : 0 < length (routesOf table closed q) = omega arith in with-pair p some (sym f ∙ planned-some (routesOf table closed q) (q .allowance) some)
 
     by-number : (n : ℕ) → refusal table closed q size ≡ n → Outcome table closed q size
-    by-number zero e = by-length (refusal-passed table closed q size e) (length (routesOf table closed q)) refl (ap (λ (x : ℕ). answerUnless x table closed q) (sym e))
-    by-number (suc n) e = by-check (suc n) e (refusal-told table closed q size n e) (ap (λ (x : ℕ). answerUnless x table closed q) e)
+    by-number zero e = by-length (refusal-passed table closed q size e) (length (routesOf table closed q)) refl (ap (λ (x : ℕ). plannedUnless x (plannedArcs table closed) q) (sym e))
+    by-number (suc n) e = by-check (suc n) e (refusal-told table closed q size n e) (ap (λ (x : ℕ). plannedUnless x (plannedArcs table closed) q) e)
 
 -- ---- the fields of a reply, read back
 

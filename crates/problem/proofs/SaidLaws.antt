@@ -268,6 +268,7 @@ passed-allowing b p pos top =
         allowance-range = top;
         sound = c .sound;
       };
+      risks-listed = p .risks-listed;
       closed-set = p .closed-set;
       room = p .room;
     }

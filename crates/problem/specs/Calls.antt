@@ -1,18 +1,19 @@
--- Calls, as the promises speak of them: the routes and the ways of a call, the test of each number and its turn, the lowest faulty arc, the pair that a reply says, another allowance, and what a call of the entry does. Assumes nothing.
-use Prim.Native.Nat.{ℕ, zero, suc, _+_, _*_, _%_, _≤_, _<_}
+-- Calls, as the promises speak of them: the routes and the ways of a call, the test of each number and its turn, the lowest faulty arc and the lowest blank one, the pair that a reply says, another allowance, and what a call of the entry does. Assumes nothing.
+use Prim.Native.Nat.{ℕ, _+_, _*_, _%_, _≤_, _<_}
 use mathlib.Core.Bool.{true, false}
-use mathlib.Core.List.{List, List·Memᴰ}
+use mathlib.Core.List.{List, _++_, List·Memᴰ}
 use mathlib.Core.Path.{_≡_}
 use lib.ListN.{length}
 use Rattle.problem.specs.declared.Arc.{Arc}
 use Rattle.problem.specs.declared.Fault.{Fault}
 use Rattle.problem.specs.declared.Request.{Request}
 use Rattle.problem.specs.Table.{lastNode, mostReach, mostAllowance, mostTableBytes, replySize, arcsOf, SoundArc, HasFault, faultNumber, arcNumber}
+use Rattle.problem.specs.Blanks.{Blank}
 use Rattle.problem.specs.Spans.{spanless, markedArcs}
-use Rattle.problem.specs.Closed.{closedSize, closedIn, isOpen, noneClosed, shutIn}
+use Rattle.problem.specs.Closed.{closedSize, closedIn, isOpen, noneClosed, shutIn, plannedArcs}
 use Rattle.problem.specs.Routes.{Route, IsRoute, IsWay, arcAt, routeOf, ranking}
 use Rattle.problem.specs.Pairs.{Pair, pair}
-use Rattle.problem.specs.Reply.{request, meshOver, meshOf, Answer, refuse, firstNumber, plainChecks, refusal, planned, answerAround, after, mainIn, standbyIn}
+use Rattle.problem.specs.Reply.{request, meshOf, Answer, firstNumber, sizeChecks, requestChecks, arcChecks, closedChecks, plainChecks, refusal, plannedUnless, answerAround, after, mainIn, standbyIn}
 
 -- the routes of a call, in their ranking; N is how many there are
 abbrev pub routesOf : (table closed : List ℕ) → Request → List Route
@@ -38,7 +39,7 @@ abbrev pub allowing : Request → ℕ → Request
 allowing q allowance = request (q .source) (q .terminal) (q .reach) allowance
 
 -- the table of numbers: the test of each, whatever the others say, and its turn in the order of the checks. Two tests of one number are one or the other.
--- Turns are counted as 01 has them, where a check's turn was its number; the faults of arcs have the turn that was 9's, the closed set the next, and 10 the one behind it
+-- Turns are counted as 01 has them, where a check's turn was its number; the faults of arcs have the turn that was 9's, blanks the next, the closed set the next, and 10 the one behind it
 pub data Applies (table closed : List ℕ) (q : Request) (size : ℕ) : (turn number : ℕ) → Type 0 where
   table-too-long : mostTableBytes < length table → Applies table closed q size 2 2
   table-torn : (length table % 16 ≡ 0 → ⊥) → Applies table closed q size 3 3
@@ -50,11 +51,12 @@ pub data Applies (table closed : List ℕ) (q : Request) (size : ℕ) : (turn nu
   allowance-none : q .allowance ≡ 0 → Applies table closed q size 8 8
   allowance-too-large : mostAllowance < q .allowance → Applies table closed q size 8 8
   arc-faulty : (k : ℕ) (f : Fault) → k < length (arcsOf table) → HasFault (arcAt (arcsOf table) k) f → Applies table closed q size 9 (faultNumber f + 256 * k)
-  set-not-whole : (length closed ≡ closedSize → ⊥) → Applies table closed q size 10 16
-  set-past-table : (k : ℕ) → length (arcsOf table) ≤ k → isOpen (closedIn closed) k ≡ false → Applies table closed q size 10 16
-  no-route : ((ks : List ℕ) → RouteOf table closed q ks → ⊥) → Applies table closed q size 11 10
+  arc-blank : (k : ℕ) → k < length (arcsOf table) → Blank (arcAt (arcsOf table) k) → Applies table closed q size 10 (24 + 256 * k)
+  set-not-whole : (length closed ≡ closedSize → ⊥) → Applies table closed q size 11 16
+  set-past-table : (k : ℕ) → length (arcsOf table) ≤ k → isOpen (closedIn closed) k ≡ false → Applies table closed q size 11 16
+  no-route : ((ks : List ℕ) → RouteOf table closed q ks → ⊥) → Applies table closed q size 12 10
 
--- the number that is told: its own test holds, none of an earlier turn, and in its own turn none of a smaller number; so of faulty arcs the lowest, and of its faults the first
+-- the number that is told: its own test holds, none of an earlier turn, and in its own turn none of a smaller number; so of faulty arcs the lowest, and of its faults the first; and of blank arcs the lowest
 pub record Told (table closed : List ℕ) (q : Request) (size number : ℕ) : Type 0 where
   pub turn : ℕ
   pub applies : Applies table closed q size turn number
@@ -68,10 +70,11 @@ pub record LowestFault (arcs : List Arc) (i n : ℕ) : Type 0 where
   pub first-fault : arcNumber (arcAt arcs i) ≡ n
   pub sound-below : (j : ℕ) → j < i → SoundArc (arcAt arcs j)
 
--- an answer planned over these arcs, where no check before 10 has told a number
-abbrev pub plannedUnless : ℕ → List Arc → Request → Answer
-plannedUnless zero arcs q = planned (ranking (meshOver arcs q)) (q .allowance)
-plannedUnless (suc n) arcs q = refuse (suc n)
+-- arc i is blank, and no arc below it is
+pub record LowestBlank (arcs : List Arc) (i : ℕ) : Type 0 where
+  pub inside : i < length arcs
+  pub blank : Blank (arcAt arcs i)
+  pub none-below : (j : ℕ) → j < i → Blank (arcAt arcs j) → ⊥
 
 -- the answer with spans left out: as `answerAround`, but that no arc has one (T-03)
 abbrev pub answerByRisks : (table closed : List ℕ) → Request → ℕ → Answer
@@ -81,9 +84,9 @@ answerByRisks table closed q size = plannedUnless (refusal table closed q size) 
 abbrev pub answerOverAll : List ℕ → Request → ℕ → Answer
 answerOverAll table q size = plannedUnless (firstNumber (plainChecks table q size)) (markedArcs table) q
 
--- none of a list of arcs is closed
-abbrev pub AllOpen : List ℕ → List ℕ → Type 0
-AllOpen closed ks = (k : ℕ) → List·Memᴰ k ks → isOpen (closedIn closed) k ≡ true
+-- the answer as it was while a blank was let through: without its check (T-09)
+abbrev pub answerWithBlanks : (table closed : List ℕ) → Request → ℕ → Answer
+answerWithBlanks table closed q size = plannedUnless (firstNumber (sizeChecks table size ++ requestChecks q ++ arcChecks table ++ closedChecks table closed)) (plannedArcs table closed) q
 
 -- a second closed set that closes what the first does, and else only arcs that lie on no route of the call with the first
 pub record ClosesAside (table closed more : List ℕ) (q : Request) : Type 0 where

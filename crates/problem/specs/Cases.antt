@@ -49,7 +49,7 @@ meshE = arc 0 1 0 0
 
 -- our own: three ways to node 1 that share a risk two by two, then a loop over node 2, then the terminal 3: who meets nodes twice counts more than 3 routes
 abbrev pub meshLoop : List ℕ
-meshLoop = arc 0 1 1000 3 ++ arc 0 1 1000 6 ++ arc 0 1 1000 5 ++ arc 1 2 500 0 ++ arc 2 1 500 0 ++ arc 1 3 1000 0
+meshLoop = arc 0 1 1000 3 ++ arc 0 1 1000 6 ++ arc 0 1 1000 5 ++ arc 1 2 500 8 ++ arc 2 1 500 16 ++ arc 1 3 1000 32
 
 -- our own: an equal total wins by an earlier main, though the other pair has the earlier standby
 abbrev pub meshParallel : List ℕ
@@ -139,9 +139,10 @@ rows =
     ∷ row meshB 3 10000 9 answerB1  -- B1
     ∷ row meshC 1 10000 1000 (written 0 0 0 1 1000 1000 0 (0 ∷ []) (1 ∷ []))  -- C1
     ∷ row meshD 1 10000 1000 (written 0 1 1 1 1000 1000 1 (0 ∷ []) (0 ∷ []))  -- D1
+    ∷ row (arc 0 1 1000 0) 1 10000 1000 (refuse 24)  -- D2, which was answered before T-09
     ∷ row [] 1 10000 1000 (refuse 10)  -- E1
     ∷ row meshE 1 0 1000 (written 0 0 0 1 0 0 0 (0 ∷ []) (0 ∷ []))  -- E2
-    ∷ row meshLoop 3 3000 1000 (written 0 1 0 3 2000 2000 2 (0 ∷ 5 ∷ []) (1 ∷ 5 ∷ []))
+    ∷ row meshLoop 3 3000 1000 (written 0 2 1 3 2000 2000 34 (0 ∷ 5 ∷ []) (1 ∷ 5 ∷ []))
     ∷ row meshParallel 1 10000 1000 (written 0 0 0 2 4000 6000 0 (2 ∷ []) (3 ∷ []))
     ∷ row meshTotal 1 10000 1000 (written 0 0 0 3 2000 2500 0 (1 ∷ []) (2 ∷ []))
     ∷ row meshTie 1 10000 1000 (written 0 0 0 1 1000 1000 0 (0 ∷ []) (2 ∷ []))
@@ -236,9 +237,10 @@ pub fault-by-fault
     ∷ number (replicate 2048 0) 0 1 62000000 1000000 96
     ∷ number (meshA ++ arc 7 7 0 0) 0 3 10000 1000 96
     ∷ number (arc 0 31 2000000 0) 0 1 62000000 1000000 96
-    ∷ number (arc 0 31 2000000 0) 0 31 62000000 1000000 96
+    ∷ number (arc 0 31 2000000 1) 0 1 62000000 1000000 96
+    ∷ number (arc 0 31 2000000 1) 0 31 62000000 1000000 96
     ∷ []
-    ≡ 2 ∷ 3 ∷ 3 ∷ 4 ∷ 5 ∷ 5 ∷ 5 ∷ 6 ∷ 7 ∷ 8 ∷ 8 ∷ 20 ∷ 22 ∷ 10 ∷ 10 ∷ 22 ∷ 20 ∷ 21 ∷ 1301 ∷ 10 ∷ 0 ∷ []
+    ≡ 2 ∷ 3 ∷ 3 ∷ 4 ∷ 5 ∷ 5 ∷ 5 ∷ 6 ∷ 7 ∷ 8 ∷ 8 ∷ 20 ∷ 22 ∷ 10 ∷ 10 ∷ 22 ∷ 20 ∷ 21 ∷ 1301 ∷ 24 ∷ 10 ∷ 0 ∷ []
 unfolding opened
 fault-by-fault = refl
 
@@ -277,26 +279,26 @@ meshBack = arc 0 1 1000 65 ++ spanArc 1 2 9 1000 2 ++ arc 2 3 1000 132 ++ arc 0 
 -- n arcs that lie on no route, each with a span of its own
 abbrev pub aside : ℕ → List ℕ
 aside zero = []
-aside (suc n) = spanArc 30 31 (1000 + n) 5 0 ++ aside n
+aside (suc n) = spanArc 30 31 (1000 + n) 5 1 ++ aside n
 
--- D2 with a span number on its arc; both directions of a span; a span that one route crosses twice counts once; risks and spans together; spans 1 and 65,535; 256 is a span,
+-- D1 with a span number on its arc; both directions of a span; a span that one route crosses twice counts once; risks and spans together; spans 1 and 65,535; 256 is a span,
 -- and 1 is not 257; no number is no span; equal numbers on arcs that are not parallel are one span; over 64 distinct spans, one of the last of them on every
 -- route; the 64th span of a table, the 65th and the 128th
 abbrev pub spanRows : List Row
 spanRows =
-    row (spanArc 0 1 7 1000 0) 1 10000 1000 (writtenWith 1 0 1 1 1 1000 1000 0 (0 ∷ []) (0 ∷ []))
+    row (spanArc 0 1 7 1000 1) 1 10000 1000 (writtenWith 1 0 2 2 1 1000 1000 1 (0 ∷ []) (0 ∷ []))
     ∷ row meshBack 3 10000 1 (writtenWith 1 1 1 0 1 3000 7000 0 (0 ∷ 1 ∷ 2 ∷ []) (3 ∷ 4 ∷ 5 ∷ []))
-    ∷ row (spanArc 0 1 5 1000 0 ++ spanArc 1 2 5 1000 0) 2 10000 1000 (writtenWith 1 0 1 1 1 2000 2000 0 (0 ∷ 1 ∷ []) (0 ∷ 1 ∷ []))
+    ∷ row (spanArc 0 1 5 1000 1 ++ spanArc 1 2 5 1000 2) 2 10000 1000 (writtenWith 1 0 3 3 1 2000 2000 3 (0 ∷ 1 ∷ []) (0 ∷ 1 ∷ []))
     ∷ row (spanArc 0 1 7 1000 5) 1 10000 1000 (writtenWith 1 0 3 3 1 1000 1000 5 (0 ∷ []) (0 ∷ []))
-    ∷ row (spanArc 0 1 1 1000 0 ++ spanArc 1 2 65535 1000 0) 2 10000 1000 (writtenWith 2 0 2 2 1 2000 2000 0 (0 ∷ 1 ∷ []) (0 ∷ 1 ∷ []))
-    ∷ row (spanArc 0 1 256 1000 0) 1 10000 1000 (writtenWith 1 0 1 1 1 1000 1000 0 (0 ∷ []) (0 ∷ []))
-    ∷ row (spanArc 0 1 1 1000 0 ++ spanArc 0 1 257 1000 0) 1 10000 1000 (written 0 0 0 1 1000 1000 0 (0 ∷ []) (1 ∷ []))
-    ∷ row (arc 0 1 1000 0 ++ arc 0 1 1000 0) 1 10000 1000 (written 0 0 0 1 1000 1000 0 (0 ∷ []) (0 ∷ []))
-    ∷ row (spanArc 5 6 7 1000 0 ++ spanArc 0 1 7 1000 0 ++ spanArc 0 1 7 1000 0) 1 10000 1000 (writtenWith 1 0 1 1 1 1000 1000 0 (1 ∷ []) (1 ∷ []))
-    ∷ row (aside 70 ++ spanArc 0 1 9 1000 0 ++ spanArc 0 1 8 1000 0 ++ spanArc 1 2 7 1000 0) 2 10000 1000 (writtenWith 1 0 1 1 1 2000 2000 0 (70 ∷ 72 ∷ []) (71 ∷ 72 ∷ []))
-    ∷ row (aside 63 ++ spanArc 0 1 9 1000 0) 1 10000 1000 (writtenWith 1 0 1 1 1 1000 1000 0 (63 ∷ []) (63 ∷ []))
-    ∷ row (aside 64 ++ spanArc 0 1 9 1000 0) 1 10000 1000 (writtenWith 1 0 1 1 1 1000 1000 0 (64 ∷ []) (64 ∷ []))
-    ∷ row (aside 127 ++ spanArc 0 1 9 1000 0) 1 10000 1000 (writtenWith 1 0 1 1 1 1000 1000 0 (127 ∷ []) (127 ∷ []))
+    ∷ row (spanArc 0 1 1 1000 1 ++ spanArc 1 2 65535 1000 2) 2 10000 1000 (writtenWith 2 0 4 4 1 2000 2000 3 (0 ∷ 1 ∷ []) (0 ∷ 1 ∷ []))
+    ∷ row (spanArc 0 1 256 1000 1) 1 10000 1000 (writtenWith 1 0 2 2 1 1000 1000 1 (0 ∷ []) (0 ∷ []))
+    ∷ row (spanArc 0 1 1 1000 1 ++ spanArc 0 1 257 1000 2) 1 10000 1000 (written 0 0 0 1 1000 1000 0 (0 ∷ []) (1 ∷ []))
+    ∷ row (arc 0 1 1000 1 ++ arc 0 1 1000 1) 1 10000 1000 (written 0 1 1 1 1000 1000 1 (0 ∷ []) (0 ∷ []))
+    ∷ row (spanArc 5 6 7 1000 1 ++ spanArc 0 1 7 1000 2 ++ spanArc 0 1 7 1000 4) 1 10000 1000 (writtenWith 1 0 1 1 1 1000 1000 0 (1 ∷ []) (2 ∷ []))
+    ∷ row (aside 70 ++ spanArc 0 1 9 1000 2 ++ spanArc 0 1 8 1000 4 ++ spanArc 1 2 7 1000 8) 2 10000 1000 (writtenWith 1 0 2 2 1 2000 2000 8 (70 ∷ 72 ∷ []) (71 ∷ 72 ∷ []))
+    ∷ row (aside 63 ++ spanArc 0 1 9 1000 1) 1 10000 1000 (writtenWith 1 0 2 2 1 1000 1000 1 (63 ∷ []) (63 ∷ []))
+    ∷ row (aside 64 ++ spanArc 0 1 9 1000 1) 1 10000 1000 (writtenWith 1 0 2 2 1 1000 1000 1 (64 ∷ []) (64 ∷ []))
+    ∷ row (aside 127 ++ spanArc 0 1 9 1000 1) 1 10000 1000 (writtenWith 1 0 2 2 1 1000 1000 1 (127 ∷ []) (127 ∷ []))
     ∷ []
 
 pub two-in-one-span : map (λ r. answer (r .table) (r .request) 96) spanRows ≡ map (λ r. r .expected) spanRows
@@ -343,7 +345,7 @@ closedRows =
     ∷ around (cables 0 9) (127 ∷ 1 ∷ []) 1 (written 0 1 1 1 1007 1007 128 (7 ∷ []) (7 ∷ []))
     ∷ around (aside 127 ++ arc 0 1 1000 1) (replicate 15 0 ++ 128 ∷ []) 1 (refuse 10)
     ∷ around (aside 127 ++ arc 0 1 1000 1) (replicate 15 255 ++ 127 ∷ []) 1 (written 0 1 1 1 1000 1000 1 (127 ∷ []) (127 ∷ []))
-    ∷ around (spanArc 0 1 7 1000 0 ++ spanArc 0 1 7 2000 0 ++ spanArc 0 1 7 3000 0) (1 ∷ []) 1 (writtenWith 1 0 1 1 1 2000 2000 0 (1 ∷ []) (1 ∷ []))
+    ∷ around (spanArc 0 1 7 1000 1 ++ spanArc 0 1 7 2000 2 ++ spanArc 0 1 7 3000 4) (1 ∷ []) 1 (writtenWith 1 0 1 1 2 2000 3000 0 (1 ∷ []) (2 ∷ []))
     ∷ []
 
 pub planned-around : map (λ r. answerAround (r .table) (r .closed) (r .request) 96) closedRows ≡ map (λ r. r .expected) closedRows
@@ -453,6 +455,39 @@ pub change-read : changeIn (1 ∷ 2 ∷ 3 ∷ 9 ∷ 4 ∷ 5 ∷ replicate 10 9) 
 unfolding opened
 change-read = refl
 
+-- ---- T-09, empty risk lists
+
+-- D2; with a span number, which fills no blank; of 1 metre; behind an arc of 0 metres, which keeps its blank; the lowest of two that lie on no route; where the terminal cannot be reached; the last of 128;
+-- a fault of an arc behind it is told first, and so are a buffer that is too small and an allowance of none. One risk is enough, be it the last
+pub blanks-told
+    : number (arc 0 1 1000 0) 0 1 10000 1000 96
+    ∷ number (spanArc 0 1 7 1000 0) 0 1 10000 1000 96
+    ∷ number (arc 0 1 1 0) 0 1 10000 1000 96
+    ∷ number (arc 0 1 0 0 ++ arc 0 1 1 0) 0 1 10000 1000 96
+    ∷ number (meshA ++ arc 5 6 7 0 ++ arc 6 7 8 0) 0 3 10000 1000 96
+    ∷ number (arc 0 1 1000 0) 0 2 10000 1000 96
+    ∷ number (many ++ arc 0 1 5 0) 0 1 10000 1000 96
+    ∷ number (arc 0 1 5 0 ++ arc 3 3 5 0) 0 1 10000 1000 96
+    ∷ number (arc 0 1 1000 0) 0 1 10000 1000 95
+    ∷ number (arc 0 1 1000 0) 0 1 10000 0 96
+    ∷ number (arc 0 1 1000 (2 ^ 63)) 0 1 10000 1000 96
+    ∷ []
+    ≡ 24 ∷ 24 ∷ 24 ∷ 280 ∷ 1304 ∷ 24 ∷ 32536 ∷ 277 ∷ 4 ∷ 8 ∷ 0 ∷ []
+unfolding opened
+blanks-told = refl
+
+-- a blank is told of a closed arc too, and before a set that is not whole or marks an arc past the table
+pub blanks-told-around
+    : map (λ (closed : List ℕ). answerAround (meshA ++ arc 5 6 7 0) closed (request 0 3 10000 1000) 96 .number) (closing (32 ∷ []) ∷ closing [] ∷ [] ∷ closing (64 ∷ []) ∷ [])
+    ≡ 1304 ∷ 1304 ∷ 1304 ∷ 1304 ∷ []
+unfolding opened
+blanks-told-around = refl
+
+-- the mender leaves it as it is, and the list says nothing of it
+pub blanks-left : mendedTable (arc 3 3 5 0 ++ arc 0 1 1000 0 ++ arc 0 1 0 0) ∷ mendedList (arc 3 3 5 0 ++ arc 0 1 1000 0 ++ arc 0 1 0 0) ∷ [] ≡ (arc 0 1 1000 0 ++ arc 0 1 0 0) ∷ recordLost 0 2 ∷ []
+unfolding opened
+blanks-left = refl
+
 -- K: the kilometres of 0, 1, 1,000, 1,001 and 31,984 metres
 pub starred-K : map kilometres (0 ∷ 1 ∷ 1000 ∷ 1001 ∷ 31984 ∷ []) ≡ 0 ∷ 1 ∷ 1 ∷ 2 ∷ 32 ∷ []
 unfolding opened
@@ -478,8 +513,8 @@ unfolding opened
 printed-K = refl
 
 pub printed-refusals
-    : map output ((asked 0 3 62000001 1 ++ meshA) ∷ (asked 0 3 2999 1 ++ meshA) ∷ (asked 0 3 10000 16777217 ++ meshA) ∷ (asked 0 21 10000 1 ++ line 1000 0 21 ++ arc 0 1 2000001 0) ∷ [])
-    ≡ text "refused 7\n" ∷ text "refused 10\n" ∷ text "refused 8\n" ∷ text "refused 5398\n" ∷ []
+    : map output ((asked 0 3 62000001 1 ++ meshA) ∷ (asked 0 3 2999 1 ++ meshA) ∷ (asked 0 3 10000 16777217 ++ meshA) ∷ (asked 0 21 10000 1 ++ line 1000 0 21 ++ arc 0 1 2000001 0) ∷ (asked 0 1 10000 1000 ++ arc 0 1 1000 0) ∷ [])
+    ≡ text "refused 7\n" ∷ text "refused 10\n" ∷ text "refused 8\n" ∷ text "refused 5398\n" ∷ text "refused 24\n" ∷ []
 unfolding opened
 printed-refusals = refl
 

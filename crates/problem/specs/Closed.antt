@@ -1,8 +1,9 @@
 -- Request T-06, Works this weekend: a closed arc lies on no route and gives no distance. It stays in its place, so that numbers stay, but begins at no node, so that no way goes over it:
 -- whatever the other definitions say of arcs then holds of the open ones (`ways-open` and `routes-open` of proofs/Promises.antt). Assumes nothing.
 use Prim.Native.Nat.{ℕ, suc, _/_}
-use mathlib.Core.Bool.{Bool}
-use mathlib.Core.List.{List, [], _∷_}
+use mathlib.Core.Bool.{Bool, true}
+use mathlib.Core.List.{List, [], _∷_, List·Memᴰ}
+use mathlib.Core.Path.{_≡_}
 use lib.Dec.{eqb}
 use lib.ListN.{replicate}
 use Rattle.laws.specs.Choosing.{if_then_else_}
@@ -22,6 +23,10 @@ closedIn bytes = numberAt bytes 0 closedSize
 -- arc k is open: its bit is 0
 abbrev pub isOpen : ℕ → ℕ → Bool
 isOpen set k = eqb (bit set k) 0
+
+-- none of a list of arcs is closed
+abbrev pub AllOpen : ℕ → List ℕ → Type 0
+AllOpen set ks = (k : ℕ) → List·Memᴰ k ks → isOpen set k ≡ true
 
 -- the bytes that close nothing
 abbrev pub noneClosed : List ℕ

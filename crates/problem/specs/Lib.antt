@@ -1,5 +1,6 @@
 pub mod Table
 pub mod Spans
+pub mod Blanks
 pub mod Closed
 pub mod Exposures
 pub mod Routes

@@ -17,7 +17,7 @@ use Rattle.problem.specs.Reply.{Check, check, firstNumber}
 abbrev pub mostFieldBytes : ℕ
 mostFieldBytes = 4096
 
--- a table that the planner refuses for none of its bytes
+-- a table that the planner refuses neither for its length nor for a fault of an arc; a blank (T-09) is left for a person
 pub record Clean (table : List ℕ) : Type 0 where
   pub few-bytes : length table ≤ mostTableBytes
   pub whole-arcs : length table % 16 ≡ 0

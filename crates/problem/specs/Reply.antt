@@ -9,6 +9,7 @@ use Rattle.laws.specs.Choosing.{if_then_else_}
 use Rattle.problem.specs.declared.Arc.{Arc}
 use Rattle.problem.specs.declared.Request.{Request}
 use Rattle.problem.specs.Table.{lastNode, mostReach, mostAllowance, mostTableBytes, replySize, numberAt, bytesOf, over, arcsOf, arcsNumber, allSound}
+use Rattle.problem.specs.Blanks.{blanksNumber, noneBlank}
 use Rattle.problem.specs.Closed.{closedSize, closedIn, noneClosed, plannedArcs}
 use Rattle.problem.specs.Routes.{Mesh, mesh, Route, ranking}
 use Rattle.problem.specs.Pairs.{Pair, sharedRisks, sharedCount, sharedSpans, floor, every, best, ranked, verdict}
@@ -99,7 +100,7 @@ unfoldable pub firstNumber : List Check → ℕ
 firstNumber [] = 0
 firstNumber (c ∷ cs) = if c .test then c .number else firstNumber cs
 
--- the checks before 10, in their order: of the sizes (`size` is the reply buffer's), of the request, of the arcs, open and closed, and of the closed set
+-- the checks before 10, in their order: of the sizes (`size` is the reply buffer's), of the request, of the arcs, open and closed, for faults and then for blanks, and of the closed set
 unfoldable pub sizeChecks : List ℕ → ℕ → List Check
 sizeChecks table size =
     check (ltb mostTableBytes (length table)) 2
@@ -118,12 +119,15 @@ requestChecks q =
 unfoldable pub arcChecks : List ℕ → List Check
 arcChecks table = check (not (allSound (arcsOf table))) (arcsNumber (arcsOf table)) ∷ []
 
+unfoldable pub blankChecks : List ℕ → List Check
+blankChecks table = check (not (noneBlank (arcsOf table))) (blanksNumber (arcsOf table)) ∷ []
+
 unfoldable pub closedChecks : (table closed : List ℕ) → List Check
 closedChecks table closed = check (not (eqb (length closed) closedSize) || not (ltb (closedIn closed) (2 ^ length (arcsOf table)))) 16 ∷ []
 
 -- those of a call that brings no closed set
 abbrev pub plainChecks : List ℕ → Request → ℕ → List Check
-plainChecks table q size = sizeChecks table size ++ requestChecks q ++ arcChecks table
+plainChecks table q size = sizeChecks table size ++ requestChecks q ++ arcChecks table ++ blankChecks table
 
 -- the first of all that applies, or 0
 unfoldable pub refusal : (table closed : List ℕ) → Request → ℕ → ℕ
@@ -146,9 +150,10 @@ pub record ClosedSet (table closed : List ℕ) : Type 0 where
   pub whole : length closed ≡ closedSize
   pub inside : closedIn closed < 2 ^ length (arcsOf table)
 
--- and of the reply buffer
+-- and of blanks and the reply buffer
 pub record Passed (table closed : List ℕ) (q : Request) (size : ℕ) : Type 0 where
   pub checked : Checked table q
+  pub risks-listed : noneBlank (arcsOf table) ≡ true
   pub closed-set : ClosedSet table closed
   pub room : replySize ≤ size
 
@@ -160,13 +165,14 @@ planned (r ∷ more) allowance =
     let p : Pair = best every routes (ranked every routes allowance) in
     record { number = verdict every routes allowance; reply = replyOf (verdict every routes allowance) (floor routes) (ranked every routes allowance) p }
 
-unfoldable pub answerUnless : ℕ → (table closed : List ℕ) → Request → Answer
-answerUnless zero table closed q = planned (ranking (meshOf table closed q)) (q .allowance)
-answerUnless (suc n) table closed q = refuse (suc n)
+-- planned over these arcs, unless a check has told a number
+unfoldable pub plannedUnless : ℕ → List Arc → Request → Answer
+plannedUnless zero arcs q = planned (ranking (meshOver arcs q)) (q .allowance)
+plannedUnless (suc n) arcs q = refuse (suc n)
 
 -- the answer of a planning entry, for every table, closed set, request and size of buffer
 unfoldable pub answerAround : (table closed : List ℕ) → Request → ℕ → Answer
-answerAround table closed q size = answerUnless (refusal table closed q size) table closed q
+answerAround table closed q size = plannedUnless (refusal table closed q size) (plannedArcs table closed) q
 
 -- with nothing closed: the answer of the entry that takes no closed set
 abbrev pub answer : List ℕ → Request → ℕ → Answer
