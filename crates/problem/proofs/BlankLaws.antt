@@ -1,13 +1,14 @@
 -- Blank arcs (T-09): what the definition's test says of one, and of several the lowest. Assumes nothing.
 use mathlib.Core.Path.{_≡_, refl, sym, ap, _∙_}
-use mathlib.Core.Bool.{Bool, true, false, _&&_, true≢false}
+use mathlib.Core.Bool.{Bool, true, false}
 use mathlib.Core.List.{List, []}
-use Prim.Native.Nat.{ℕ, zero, suc, _+_, _*_, _<_}
+use Prim.Native.Nat.{ℕ, _+_, _*_, _<_}
 use native.Mathlib.Omega.{arith}
 use lib.Dec.{eqb, ltb}
 use lib.ListN.{length}
 use borrow.Author.Tests.{ltb-true, lt-ltb, eqb-true, eq-eqb}
 use Rattle.laws.specs.Choosing.{if_then_else_}
+use Rattle.laws.proofs.BoolLaws.{both}
 use Rattle.problem.specs.declared.Arc.{Arc}
 use Rattle.problem.specs.Routes.{arcAt}
 use Rattle.problem.specs.Blanks.{Blank, isBlank, blankNumber, blanksNumber, noneBlank}
@@ -16,7 +17,7 @@ use Rattle.problem.proofs.ToldLaws.{FirstAt, First, first, first-told, 
 
 -- ---- of one arc
 
--- the number by the test's outcome
+-- a number is given where the test holds
 numbered : (b : Bool) {n : ℕ} → (if b then 24 else 0) ≡ n → (n ≡ 0 → ⊥) → b ≡ true
 numbered true e f = refl
 numbered false e f = absurd (f (sym e))
@@ -28,12 +29,7 @@ module _ (a : Arc) where
 
   pub blank-is : isBlank a ≡ true → Blank a
   unfolding isBlank
-  blank-is = go (ltb 0 (a .metres)) (eqb (a .risks) 0) refl refl
-    where
-      go : (m r : Bool) → ltb 0 (a .metres) ≡ m → eqb (a .risks) 0 ≡ r → (m && r) ≡ true → Blank a
-      go true true em er e = record { some-metres = ltb-true _ _ em; no-risk = eqb-true _ _ er }
-      go true false em er e = absurd (true≢false (sym e))
-      go false r em er e = absurd (true≢false (sym e))
+  blank-is e = let t = both (ltb 0 (a .metres)) (eqb (a .risks) 0) e in record { some-metres = ltb-true _ _ (t .0); no-risk = eqb-true _ _ (t .1) }
 
   -- an arc of 0 metres keeps its blank; of any other its risks tell
   pub blank-metres : a .metres ≡ 0 → isBlank a ≡ false
@@ -95,10 +91,3 @@ module _ (arcs : List Arc) where
   pub listed-at : noneBlank arcs ≡ true → (k : ℕ) → k < length arcs → Blank (arcAt arcs k) → ⊥
   unfolding blanksNumber
   listed-at h k l b = omega (arith, blank-number (arcAt arcs k) b, untold blankNumber (arcAt [] 0) arcs (listed-number h) k l)
-
-  pub at-listed : ((k : ℕ) → k < length arcs → Blank (arcAt arcs k) → ⊥) → noneBlank arcs ≡ true
-  at-listed none = number-listed (blankless-number (λ j l. go j l (blankNumber (arcAt arcs j)) refl))
-    where
-      go : (j : ℕ) → j < length arcs → (n : ℕ) → blankNumber (arcAt arcs j) ≡ n → blankNumber (arcAt arcs j) ≡ 0
-      go j l zero e = e
-      go j l (suc n) e = absurd (none j l (number-blank (arcAt arcs j) (λ z. omega (arith, sym e ∙ z))))

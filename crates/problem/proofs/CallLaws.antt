@@ -1,5 +1,5 @@
 -- How calls end: the verdict, which number goes with which end, the order of the checks, the arc that a number names, and what is answered as before there was a check for blanks. Assumes nothing.
-use mathlib.Core.Path.{_≡_, refl, sym, ap, ap₂, _∙_, subst}
+use mathlib.Core.Path.{_≡_, refl, sym, ap, _∙_, subst}
 use mathlib.Core.Bool.{Bool, true, false}
 use mathlib.Core.Logic.{_⊎_, inl, inr, _↔_}
 use mathlib.Core.List.{List, [], _++_, List·Memᴰ, List·Memᴰ·not-nil}
@@ -11,7 +11,7 @@ use borrow.Author.Tests.{leb-true, leb-false, le-leb, lt-leb, ltb-true, ltb-fals
 use Rattle.laws.proofs.ListLaws.{getD-mem}
 use Rattle.problem.specs.declared.Request.{Request}
 use Rattle.problem.specs.Table.{arcsOf, faultOf}
-use Rattle.problem.specs.Blanks.{Blank, blanksNumber}
+use Rattle.problem.specs.Blanks.{blanksNumber}
 use Rattle.problem.specs.Closed.{closedSize, closedIn, isOpen, plannedArcs}
 use Rattle.problem.specs.Routes.{Route, arcAt, routeOf}
 use Rattle.problem.specs.Pairs.{noRoute, Step, every, someAt, leastSettled, ranked, verdict}
@@ -199,7 +199,7 @@ module _ (table closed : List ℕ) (q : Request) (size : ℕ) where
     λ l. numbered (n + 256 * i) (omega arith) .1 (subst (Told table closed q size) (omega (arith, l .first-fault)) (told-faulty table closed q size below (lowest-first (arcsOf table) l))),
   )
 
-  -- which blank arc, where none before that of blank ones does
+  -- 24 of an arc names the lowest blank one, and is given for it where no turn before that of blank arcs comes to a number
   pub blank-told : (i : ℕ) → answerAround table closed q size .number ≡ 24 + 256 * i → LowestBlank (arcsOf table) i
   blank-told i e = of-blank (omega arith) (lowest (omega arith) (λ z. omega arith) i 24 (omega arith) e) .1
 

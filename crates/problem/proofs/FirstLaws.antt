@@ -5,7 +5,6 @@ use mathlib.Core.List.{List, [], _∷_, _++_}
 use Prim.Native.Nat.{ℕ, zero, suc}
 use native.Mathlib.Omega.{arith}
 use borrow.Author.Tests.{not-true}
-use Rattle.laws.specs.Choosing.{if_then_else_}
 use Rattle.problem.specs.declared.Request.{Request}
 use Rattle.problem.specs.Table.{arcsOf, arcsNumber, allSound}
 use Rattle.problem.specs.Blanks.{blanksNumber, noneBlank}

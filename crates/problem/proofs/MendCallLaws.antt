@@ -15,7 +15,7 @@ use Rattle.problem.specs.Table.{mostInTable, recordAt, arcOf, arcsOf, So
 use Rattle.problem.specs.Routes.{arcAt}
 use Rattle.problem.specs.Reply.{firstNumber, answerAround}
 use Rattle.problem.specs.Calls.{Applies}
-use Rattle.problem.specs.Mending.{mostFieldBytes, Clean, wholeArcs, faultAt, mayStay, newNumber, mendedTable, Change, mendedList, roundedUp, Mending, mendChecks, mendingUnless, mending, KeptAs, lost, Listed}
+use Rattle.problem.specs.Mending.{mostFieldBytes, Clean, wholeArcs, faultAt, mayStay, newNumber, mendedTable, Change, mendedList, roundedUp, Mending, mendChecks, mendingUnless, mending, lost, Listed}
 use Rattle.problem.proofs.FaultLaws.{sound-none, arc-sound, fault-sound}
 use Rattle.problem.proofs.TableLaws.{arcs-at, sound-at}
 use Rattle.problem.proofs.MendLaws.{kept-record}

@@ -442,7 +442,7 @@ module _ (table closed : List ℕ) (q : Request) (size : ℕ) where
   pub answered-listed : number table closed q size < 2 → (k : ℕ) → k < length (arcsOf table) → Blank (arcAt (arcsOf table) k) → ⊥
   answered-listed h = BlankLaws.listed-at (arcsOf table) (low-number table closed q size h .passed .risks-listed)
 
-  -- a table without a blank arc answers as before; and so does any call that is not refused for one
+  -- any call that is not refused for a blank is answered as before; so a table without a blank arc is
   pub otherwise-before : ((i : ℕ) → number table closed q size ≡ 24 + 256 * i → ⊥) → answerAround table closed q size ≡ answerWithBlanks table closed q size
   otherwise-before = CallLaws.otherwise-before table closed q size
 

@@ -150,7 +150,7 @@ pub record ClosedSet (table closed : List ℕ) : Type 0 where
   pub whole : length closed ≡ closedSize
   pub inside : closedIn closed < 2 ^ length (arcsOf table)
 
--- and of blanks and the reply buffer
+-- and all of them, those of blanks and of the reply buffer too
 pub record Passed (table closed : List ℕ) (q : Request) (size : ℕ) : Type 0 where
   pub checked : Checked table q
   pub risks-listed : noneBlank (arcsOf table) ≡ true
