@@ -13,8 +13,8 @@
  * Outputs are filled before each call, not alike in all rounds; each byte of them must come out the same in every
  * round, or untouched in every round. The driver knows nothing else of the rules: its reader judges.
  *
- * Each call runs on a stack of STACK bytes with a page without access below it, so one that needs more ends the driver;
- * how much was ever used is told at the end. */
+ * Each call runs on a stack of the size that the header tells a host to have left, with a page without access below it,
+ * so one that needs more ends the driver; how much was ever used is told at the end. */
 #define _DEFAULT_SOURCE
 #include "feshangul.h"
 
@@ -32,7 +32,7 @@ enum {
     GUARD = 4096,       /* bytes watched on a buffer's open side */
     ROOM = MOST + EDGE, /* a buffer and its guard, in whole pages */
     GUARD_BYTE = 0xC3,
-    STACK = 65536,      /* bytes of stack that a call may use */
+    STACK = FESHANGUL_STACK_BYTES, /* bytes of stack that a call may use: what the header tells a host to have left */
     STACK_BYTE = 0x5A,
     SECONDS = 120       /* for one call; meshes that can be listed take far less than one */
 };

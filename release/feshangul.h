@@ -25,8 +25,8 @@
 extern "C" {
 #endif
 
-#define FESHANGUL_VERSION "0.7.0"
-#define FESHANGUL_VERSION_NUMBER 700u    /* 10,000 times the first part, and 100 times the second, and the third */
+#define FESHANGUL_VERSION "0.8.0"
+#define FESHANGUL_VERSION_NUMBER 800u    /* 10,000 times the first part, and 100 times the second, and the third */
 
 /* ---- Sizes and limits ------------------------------------------------------------------------------------- */
 
@@ -46,7 +46,7 @@ extern "C" {
 #define FESHANGUL_ALLOWANCE_MAX 1000000u
 #define FESHANGUL_MEND_BYTES_MAX 4096u   /* the longest table that is mended */
 #define FESHANGUL_CHANGE_BYTES 16u       /* one record of the list of what is lost */
-#define FESHANGUL_STACK_BYTES 65536u     /* stack to have left for a call; the most measured is 50,496 */
+#define FESHANGUL_STACK_BYTES 24576u     /* stack to have left for a call; the most measured is 21,664 */
 
 /* ---- The span table ---------------------------------------------------------------------------------------
  *

@@ -6,6 +6,8 @@
 //!                                          here to tables mended by hand
 //!   compare calls COUNT SEED COMMAND..     compares those cases and COUNT random calls, half of them around closed
 //!                                          arcs, through the driver COMMAND
+//!   compare long COUNT SEED COMMAND..      compares COUNT random calls on meshes with routes of 31 arcs, through the
+//!                                          driver COMMAND
 //!   compare mends COUNT SEED COMMAND..     compares those tables and COUNT random ones, through the driver COMMAND
 //!   compare texts COUNT SEED COMMAND..     compares what the program COMMAND prints for those cases and COUNT inputs
 //!
@@ -20,6 +22,7 @@ mod closed_random;
 mod counts;
 mod difference;
 mod listing;
+mod long_random;
 mod mender;
 mod mender_cases;
 mod mender_counts;
@@ -37,6 +40,7 @@ use closed_counts::ClosedSets;
 use counts::Counts;
 use difference::{expected_on_paper, given_on_paper, smaller_cases, smallest};
 use listing::{answer, answer_to_input, case_of_input, printed, Answer};
+use long_random::LongRoutes;
 use mender::Mend;
 use mender_counts::MenderCounts;
 use mender_difference::{outcome_on_paper, smaller_mends};
@@ -55,6 +59,7 @@ fn main() {
     let same = match (words.first().map(String::as_str), words.len()) {
         (Some("listing"), 1) => hold_listing() && hold_mender(),
         (Some("calls"), 4..) => hold_listing() && compare_calls(whole(&words[1]), whole(&words[2]), &words[3..]),
+        (Some("long"), 4..) => hold_listing() && compare_long(whole(&words[1]), whole(&words[2]), &words[3..]),
         (Some("mends"), 4..) => hold_mender() && compare_mends(whole(&words[1]), whole(&words[2]), &words[3..]),
         (Some("texts"), 4..) => hold_listing() && compare_texts(whole(&words[1]), whole(&words[2]), &words[3..]),
         _ => usage(),
@@ -64,7 +69,8 @@ fn main() {
 
 fn usage() -> ! {
     eprintln!(
-        "usage: compare listing | calls COUNT SEED DRIVER.. | mends COUNT SEED DRIVER.. | texts COUNT SEED PROGRAM.."
+        "usage: compare listing | calls COUNT SEED DRIVER.. | long COUNT SEED DRIVER.. | mends COUNT SEED DRIVER.. | \
+         texts COUNT SEED PROGRAM.."
     );
     exit(2)
 }
@@ -177,6 +183,22 @@ fn compare_calls(count: u64, seed: u64, command: &[String]) -> bool {
         show_call(command, &all[first]);
     }
     spans.has_met_all() & blanks.has_met_all() & closed.has_met_all() && compared.same
+}
+
+fn compare_long(count: u64, seed: u64, command: &[String]) -> bool {
+    let mut dice = Dice::new(seed);
+    let all: Vec<Case> = (0..count).map(|_| long_random::case(&mut dice)).collect();
+    let mut long = LongRoutes::default();
+    let compared = compare("long", seed, command, &all, |place| {
+        let answer = answer(&all[place]);
+        long.add(&all[place], &answer);
+        expected_of(&all[place], &answer)
+    });
+    long.print();
+    if let Some(first) = compared.first {
+        show_call(command, &all[first]);
+    }
+    long.has_met_all() && compared.same
 }
 
 fn show_call(command: &[String], case: &Case) {

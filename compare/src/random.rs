@@ -171,7 +171,7 @@ fn crowded(dice: &mut Dice) -> Ends {
 
 // ---- Lengths and risks ----
 
-fn lengths(dice: &mut Dice, arcs: &mut [Arc]) {
+pub fn lengths(dice: &mut Dice, arcs: &mut [Arc]) {
     let style = dice.below(12);
     for arc in arcs {
         arc.metres = match style {
@@ -188,7 +188,7 @@ fn lengths(dice: &mut Dice, arcs: &mut [Arc]) {
     }
 }
 
-fn risks(dice: &mut Dice, arcs: &mut [Arc]) {
+pub fn risks(dice: &mut Dice, arcs: &mut [Arc]) {
     let style = dice.below(14);
     let common = 1 << dice.below(64);
     for (place, arc) in arcs.iter_mut().enumerate() {
@@ -302,7 +302,7 @@ pub fn number_spans(dice: &mut Dice, arcs: &mut [Arc]) {
 // ---- Where it can be listed ----
 
 /// Spreads the mesh over the 32 node numbers; returns those of source and terminal.
-fn rename_nodes(dice: &mut Dice, arcs: &mut [Arc]) -> (u32, u32) {
+pub fn rename_nodes(dice: &mut Dice, arcs: &mut [Arc]) -> (u32, u32) {
     let mut names: Vec<u8> = (0..32).collect();
     dice.shuffle(&mut names);
     for arc in arcs {
@@ -337,13 +337,17 @@ fn any_ends(dice: &mut Dice) -> Ends {
     }
 }
 
+/// Arcs with these ends, and nothing else of them known yet.
+pub fn arcs_between(ends: &Ends) -> Vec<Arc> {
+    ends.iter().map(|&(tail, head)| Arc { tail, head, span: 0, metres: 0, risks: 0 }).collect()
+}
+
 fn mesh(dice: &mut Dice, shape: Option<Shape>) -> (Vec<Arc>, u32, u32) {
     let ends = match shape {
         None => any_ends(dice),
         Some(shape) => shape.ends(dice),
     };
-    let mut arcs: Vec<Arc> =
-        ends.iter().map(|&(tail, head)| Arc { tail, head, span: 0, metres: 0, risks: 0 }).collect();
+    let mut arcs = arcs_between(&ends);
     arcs.truncate(ARCS_MAX);
     lengths(dice, &mut arcs);
     match shape {

@@ -176,7 +176,7 @@ class HelpAndVersion(CommandTest):
                     self.assertIn(word, help_text)
 
     def test_version_is_that_of_the_header(self):
-        self.assertEqual(run("--version"), Ran(0, b"feshangul 0.7.0\n", b""))
+        self.assertEqual(run("--version"), Ran(0, b"feshangul 0.8.0\n", b""))
         header = (RELEASE / "feshangul.h").read_text(encoding="utf-8")
         self.assertIn(f'#define FESHANGUL_VERSION "{feshangul.__version__}"\n', header)
 

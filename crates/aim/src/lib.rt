@@ -10,6 +10,7 @@ ghost use Rattle.sweep.specs.Sweep.{Sweeping};
 ghost use Rattle.aim.specs.Aim.{Between, Closer};
 
 // What a count of routes by length holds: from which length on, in steps of how many metres, how many more are counted; then a number for each step.
+// No more routes are counted than 32 bits hold, so that a count is half as large as in words.
 const FROM: usize = 0;
 
 const STEP: usize = 1;
@@ -20,7 +21,10 @@ const COUNTS: usize = 3;
 
 const STEPS: u64 = 1024;
 
-const WORDS: usize = COUNTS + STEPS as usize;
+const SIZE: usize = COUNTS + STEPS as usize;
+
+// More in one step are not counted.
+const MOST_IN_STEP: u32 = 4294967295;
 
 // Several times as many routes: what a window or a count may hold before it is given up for a narrower one.
 pub fn many_more(routes: u64) -> u64
@@ -30,18 +34,24 @@ pub fn many_more(routes: u64) -> u64
     8 * routes + 64
 }
 
-fn one_more(n: u64) -> u64 {
-    if n < NO_LENGTH {
+fn one_more(n: u32) -> u32 {
+    if n < MOST_IN_STEP {
         return n + 1;
     }
     n
 }
 
-fn one_fewer(n: u64) -> u64 {
+fn one_fewer(n: u32) -> u32 {
     if n == 0 {
         return 0;
     }
     n - 1
+}
+
+fn wide(n: u32) -> u64
+    ensures { λ r. ⌜ r ≡ n ⌝ }
+{
+    n as u64
 }
 
 // Which step a length lies in; past the last one where it lies in none.
@@ -56,9 +66,9 @@ fn step_of(metres: u64, from: u64, step: u64) -> u64 {
 }
 
 // Makes ready to count from a length on.
-fn start_count(counts: &mut [u64; WORDS], from: u64, step: u64, room: u64) {
+fn start_count(counts: &mut [u32; SIZE], from: u32, step: u32, room: u32) {
     let mut i: usize = 0;
-    while i < WORDS {
+    while i < SIZE {
         counts[i] = 0;
         i = i + 1;
     }
@@ -68,11 +78,11 @@ fn start_count(counts: &mut [u64; WORDS], from: u64, step: u64, room: u64) {
 }
 
 // Counts a route of so many metres.
-fn count(counts: &mut [u64; WORDS], metres: u64) {
+fn count(counts: &mut [u32; SIZE], metres: u64) {
     let from = counts[FROM];
     let step = counts[STEP];
     let room = counts[ROOM];
-    let j = step_of(metres, from, step);
+    let j = step_of(metres, wide(from), wide(step));
     if STEPS <= j {
         return;
     }
@@ -84,7 +94,7 @@ fn count(counts: &mut [u64; WORDS], metres: u64) {
 // Counts every route of at most `hi` metres that goes on from `at`, until there is no room.
 fn count_from(
     net: &[u64; net::SIZE],
-    counts: &mut [u64; WORDS],
+    counts: &mut [u32; SIZE],
     hi: u64,
     at: u64,
     met: u64,
@@ -128,15 +138,15 @@ struct Picked {
     left: u64,
 }
 
-fn pick(counts: &[u64; WORDS], s: Stretch, step: u64) -> Picked
+fn pick(counts: &[u32; SIZE], s: Stretch, step: u64) -> Picked
     requires { ⌜ (s .from ≤ s .to) × (s .to ≤ mostReach) × (step ≤ mostReach) ⌝ }
     ensures { λ r. ⌜ (s .from ≤ r .from) × (r .from ≤ s .to) × (r .left ≤ s .left) ⌝ }
 {
     let mut left = s.left;
     let mut from = s.from;
     let mut at = COUNTS;
-    while at < WORDS {
-        let n = counts[at];
+    while at < SIZE {
+        let n = wide(counts[at]);
         if left < n {
             return Picked {
                 none: false,
@@ -156,12 +166,13 @@ fn pick(counts: &[u64; WORDS], s: Stretch, step: u64) -> Picked
 }
 
 // One count of the lengths in a stretch. Where there are too many routes the stretch is cut to a quarter; else the end lies within one step, or past it.
-fn closer(net: &[u64; net::SIZE], counts: &mut [u64; WORDS], s: Stretch) -> Stretch
+fn closer(net: &[u64; net::SIZE], counts: &mut [u32; SIZE], s: Stretch) -> Stretch
     requires { ⌜ Net (now net) × Between (now net) s × (s .from < s .to) ⌝ }
     ensures { λ r. ⌜ Closer s r ⌝ }
 {
     let step = (s.to - s.from) / STEPS + 1;
-    start_count(counts, s.from, step, many_more(s.left));
+    let room = many_more(s.left);
+    start_count(counts, s.from as u32, step as u32, room as u32);
     let source = net::source(net);
     let met = sets::with(0, source as u8);
     count_from(net, counts, s.to, source, met, 0);
@@ -201,7 +212,7 @@ fn find_end(net: &[u64; net::SIZE], from: u64, to: u64, left: u64) -> Stretch
     requires { ⌜ Net (now net) × (from ≤ to) × (to ≤ meshIn (now net) .reach) × (left ≤ mostAllowance) ⌝ }
     ensures { λ r. ⌜ Between (now (net .entry)) r ⌝ }
 {
-    let mut counts = [0; WORDS];
+    let mut counts = [0; SIZE];
     let mut s = Stretch {
         from: from,
         to: to,
@@ -262,8 +273,11 @@ pub fn take_aim(
             end: end,
         };
     }
+    // Its end is known now, and the window is aimed at it; it ends at the reach in any case. What calls itself is not built into its caller, so that a count
+    // is off the stack while a window is swept.
+    let a = take_aim(net, allowance, ranked, cur, width, s.from);
     Aim {
-        width: before(cur, s.from, width),
-        end: s.from,
+        width: laws::smaller(a.width, hi - cur),
+        end: a.end,
     }
 }

@@ -1,3 +1,6 @@
 pub mod TrailLaws
 pub mod SeekLaws
 pub mod OutcomeLaws
+pub mod PutLaws
+pub mod RunLaws
+pub mod TrackLaws

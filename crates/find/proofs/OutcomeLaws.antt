@@ -1,35 +1,38 @@
 -- What a search from the source finds: the first list of the wanted length that passes, and, of mains, how many of that length stand before it. Assumes nothing.
-use mathlib.Core.Path.{_≡_, refl, sym, ap, _∙_}
+use mathlib.Core.Path.{_≡_, refl, sym, ap, ap₂, _∙_, subst}
 use mathlib.Core.Logic.{_⊎_, inl, inr}
 use mathlib.Core.Bool.{Bool, true, false}
 use mathlib.Core.List.{List, [], _∷_, foldl, foldl-append, List·Memᴰ, List·Memᴰ·head, List·Memᴰ·tail, List·Memᴰ·not-nil, List·Memᴰ·cases-cons}
 use Prim.Native.Nat.{ℕ, _+_, _≤_, min}
 use native.Mathlib.Nat.{zero-add}
 use native.Mathlib.Omega.{arith}
-use lib.Dec.{eqb}
+use lib.Dec.{eqb, ltb}
 use lib.ListN.{length}
 use borrow.Author.Tests.{eqb-true, eqb-false}
 use Rattle.laws.specs.Choosing.{if_then_else_, keep}
 use Rattle.laws.specs.Sets.{with, unmet}
 use Rattle.problem.specs.declared.Arc.{Arc}
 use Rattle.problem.specs.declared.Exposure.{Exposure}
-use Rattle.problem.specs.Table.{mostAllowance}
+use Rattle.problem.specs.Table.{mostArcs, mostAllowance}
 use Rattle.problem.specs.Exposures.{toNothing}
 use Rattle.problem.specs.Routes.{Mesh, metresOf, exposureOf, paths, Route, routeOf}
 use Rattle.problem.specs.Pairs.{noRoute}
 use Rattle.problem.proofs.ExposureLaws.{nothing-joined}
 use Rattle.problem.proofs.RouteLaws.{unmet-source}
 use Rattle.problem.proofs.GrowthLaws.{fold-idle}
-use Rattle.net.specs.Net.{meshIn, Net}
+use Rattle.net.specs.declared.Behind.{Behind}
+use Rattle.net.specs.Net.{wordAt, arcsIn, meshIn, Net}
+use Rattle.net.specs.Search.{behind, start}
 use Rattle.net.proofs.SearchLaws.{source-paths}
 use Rattle.standby.specs.Standby.{leastKey}
 use Rattle.track.specs.declared.Track.{Track}
-use Rattle.track.specs.Track.{routeIn, Holds}
-use Rattle.track.proofs.FitLaws.{fit-count}
+use Rattle.track.specs.Track.{Holds}
 use Rattle.find.specs.declared.Want.{Want}
-use Rattle.find.specs.Find.{isWanted, InRange, Sought, along, meet, seek, soughtFrom, countOf, NonePasses, First, passedIn, Outcome, Finding}
+use Rattle.find.specs.Find.{isWanted, InRange, Sure, Sought, soughtIn, meet, seek, soughtFrom, countOf, NonePasses, First, passedIn, Outcome}
+use Rattle.find.specs.Run.{passedAt, countAt, runSize, wantIn, arcsFound, soughtSoFar, Begins, ArcsKnown, Finding, Seeks}
 use Rattle.find.proofs.TrailLaws.{trail-start}
-use Rattle.find.proofs.SeekLaws.{along-is, meet-found, meet-other, meet-standby, meet-wanted, meet-passed}
+use Rattle.find.proofs.SeekLaws.{meet-found, meet-other, meet-standby, meet-wanted, meet-passed}
+use Rattle.find.proofs.PutLaws.{known-most, none-so-far}
 
 -- ---- a search over a whole list
 
@@ -74,14 +77,14 @@ module _ (m : Mesh) (w : Want) where
       go (inr p) (inr n) = inr (none-more p n)
 
   -- from the source, nothing lies behind
-  seek-all : (s : Sought) (ks : List ℕ) → seek m w noRoute s ks ≡ meet m w s (routeOf arcs ks)
-  unfolding seek routeOf
-  seek-all s ks = ap (meet m w s) (along-is arcs noRoute ks ∙ rw (zero-add (metresOf arcs ks), nothing-joined (exposureOf arcs ks)))
+  seek-all : (s : Sought) (ks : List ℕ) → seek m w (start m) s ks ≡ meet m w s (metresOf arcs ks) (exposureOf arcs ks) ks
+  unfolding seek
+  seek-all s ks = rw (zero-add (metresOf arcs ks), nothing-joined (exposureOf arcs ks))
 
   -- where no main passes, those of the wanted length are counted, and nothing else changes
   fold-mains : (l : List (List ℕ)) (s : Sought) (p : ℕ) → w .as_main ≡ true → s .found ≡ false → s .passed ≤ mostAllowance → NonePasses m w l
-      → p ≡ min (s .passed + length (keep asLong l)) mostAllowance → foldl (seek m w noRoute) s l ≡ record { found = false; passed = p; route = s .route }
-  unfolding keep routeOf
+      → p ≡ min (s .passed + length (keep asLong l)) mostAllowance → foldl (seek m w (start m)) s l ≡ record { found = false; passed = p; route = s .route }
+  unfolding keep
   fold-mains [] s p main e b n q = let same : s .passed ≡ p = omega arith in rw (← same, ← e)
   fold-mains (ks ∷ l) s p main e b n q = go (asLong ks) refl (fold-mains l)
     where
@@ -90,51 +93,49 @@ module _ (m : Mesh) (w : Want) where
 
       go : (c : Bool) → asLong ks ≡ c
           → ((r : Sought) (j : ℕ) → w .as_main ≡ true → r .found ≡ false → r .passed ≤ mostAllowance → NonePasses m w l
-          → j ≡ min (r .passed + length (keep asLong l)) mostAllowance → foldl (seek m w noRoute) r l ≡ record { found = false; passed = j; route = r .route })
-          → foldl (seek m w noRoute) s (ks ∷ l) ≡ record { found = false; passed = p; route = s .route }
+          → j ≡ min (r .passed + length (keep asLong l)) mostAllowance → foldl (seek m w (start m)) r l ≡ record { found = false; passed = j; route = r .route })
+          → foldl (seek m w (start m)) s (ks ∷ l) ≡ record { found = false; passed = p; route = s .route }
       go true f ih =
           let same = eqb-true (metresOf arcs ks) (w .metres) f in
-          ap (λ (r : Sought). foldl (seek m w noRoute) r l) (seek-all s ks ∙ meet-passed m w s (routeOf arcs ks) e same main (n ks (List·Memᴰ·head refl) same) refl)
+          ap (λ (r : Sought). foldl (seek m w (start m)) r l) (seek-all s ks ∙ meet-passed m w s (metresOf arcs ks) (exposureOf arcs ks) ks e same main (n ks (List·Memᴰ·head refl) same) refl)
           ∙ ih _ p main refl (omega arith) none (omega (arith, rw (f, keep) at q))
       go false f ih =
-          ap (λ (r : Sought). foldl (seek m w noRoute) r l) (seek-all s ks ∙ meet-other m w s (routeOf arcs ks) (eqb-false (metresOf arcs ks) (w .metres) f))
+          ap (λ (r : Sought). foldl (seek m w (start m)) r l) (seek-all s ks ∙ meet-other m w s _ _ ks (eqb-false (metresOf arcs ks) (w .metres) f))
           ∙ ih s p main e b none (rw (f, keep) at q)
 
   -- where no standby passes, nothing changes
-  fold-standbys : (l : List (List ℕ)) (s : Sought) → w .as_main ≡ false → NonePasses m w l → foldl (seek m w noRoute) s l ≡ s
-  unfolding routeOf
-  fold-standbys l s standby n = fold-idle (seek m w noRoute) s l (λ ks i. seek-all s ks ∙ meet-standby m w s (routeOf arcs ks) standby (n ks i))
+  fold-standbys : (l : List (List ℕ)) (s : Sought) → w .as_main ≡ false → NonePasses m w l → foldl (seek m w (start m)) s l ≡ s
+  fold-standbys l s standby n = fold-idle (seek m w (start m)) s l (λ ks i. seek-all s ks ∙ meet-standby m w s _ _ ks standby (n ks i))
 
   -- once found, the rest is passed over
-  fold-found : (l : List (List ℕ)) (s : Sought) → s .found ≡ true → foldl (seek m w noRoute) s l ≡ s
+  fold-found : (l : List (List ℕ)) (s : Sought) → s .found ≡ true → foldl (seek m w (start m)) s l ≡ s
   unfolding seek
-  fold-found l s e = fold-idle (seek m w noRoute) s l (λ ks i. meet-found m w s (along arcs noRoute ks) e)
+  fold-found l s e = fold-idle (seek m w (start m)) s l (λ ks i. meet-found m w s _ _ ks e)
 
   -- where a search begins
   abbrev begin : Sought
   begin = record { found = false; passed = 0; route = noRoute }
 
-  fold-none : (l : List (List ℕ)) → NonePasses m w l → foldl (seek m w noRoute) begin l ≡ record { found = false; passed = passedIn m w l; route = noRoute }
+  fold-none : (l : List (List ℕ)) → NonePasses m w l → foldl (seek m w (start m)) begin l ≡ record { found = false; passed = passedIn m w l; route = noRoute }
   fold-none l n = go (w .as_main) refl
     where
-      go : (b : Bool) → w .as_main ≡ b → foldl (seek m w noRoute) begin l ≡ record { found = false; passed = if b then countOf arcs (w .metres) l else 0; route = noRoute }
+      go : (b : Bool) → w .as_main ≡ b → foldl (seek m w (start m)) begin l ≡ record { found = false; passed = if b then countOf arcs (w .metres) l else 0; route = noRoute }
       go true e = fold-mains l begin (countOf arcs (w .metres) l) e refl (omega arith) n (omega arith)
       go false e = fold-standbys l begin e n
 
   -- a search over all of a list, from the start
-  pub fold-outcome : (all : List (List ℕ)) → Outcome m w all (foldl (seek m w noRoute) (record { found = false; passed = 0; route = noRoute }) all)
-  unfolding routeOf
+  fold-outcome : (all : List (List ℕ)) → Outcome m w all (foldl (seek m w (start m)) begin all)
   fold-outcome all = go (first-or-none all)
     where
       end : List (List ℕ) → Sought
-      end l = foldl (seek m w noRoute) begin l
+      end l = foldl (seek m w (start m)) begin l
 
       found : (f : First m w all) → end all ≡ record { found = true; passed = passedIn m w (f .before); route = routeOf arcs (f .ks) }
       found f =
           ap end (f .place)
-          ∙ foldl-append (seek m w noRoute) begin (f .before) (f .ks ∷ f .after)
-          ∙ ap (λ (r : Sought). foldl (seek m w noRoute) r (f .ks ∷ f .after)) (fold-none (f .before) (f .none-before))
-          ∙ ap (λ (r : Sought). foldl (seek m w noRoute) r (f .after)) (seek-all _ (f .ks) ∙ meet-wanted m w _ (routeOf arcs (f .ks)) refl (f .length-is) (f .passes))
+          ∙ foldl-append (seek m w (start m)) begin (f .before) (f .ks ∷ f .after)
+          ∙ ap (λ (r : Sought). foldl (seek m w (start m)) r (f .ks ∷ f .after)) (fold-none (f .before) (f .none-before))
+          ∙ ap (λ (r : Sought). foldl (seek m w (start m)) r (f .after)) (seek-all _ (f .ks) ∙ meet-wanted m w _ _ _ (f .ks) refl (f .length-is) (f .passes))
           ∙ fold-found (f .after) _ refl
 
       go : First m w all ⊎ NonePasses m w all → Outcome m w all (end all)
@@ -151,21 +152,43 @@ module _ (net : List ℕ) (words : Net net) where
   unfolding isWanted
   wanted-main w route e l = rw (e, isWanted) (ap (λ (x : ℕ). eqb x (w .key)) l)
 
-  module _ (w : Want) {at met : ℕ} (at-source : at ≡ meshIn net .source) (met-source : met ≡ with 0 at) where
-    module _ (t : Track) (held : Holds t noRoute) where
-      pub ready-first : InRange w → Finding net w at met t
-      unfolding routeIn
-      ready-first range =
-          record {
-            words = words;
-            range = range;
-            node = omega (arith, words .source-node);
-            goes-on = λ e. words .ends-differ (sym at-source ∙ e);
-            fit = held .fit;
-            room = omega (arith, fit-count t (held .fit), ap (λ (r : Route). length (r .arcs)) (held .route), unmet-source (meshIn net .source) (words .source-node), ap (unmet 32) met-source, ap (λ (v : ℕ). unmet 32 (with 0 v)) at-source);
-            not-past = omega (arith, ap (λ (r : Route). r .metres) (held .route));
-            came = trail-start (meshIn net) (w .main) at-source;
-          }
+  -- a search that begins at the source, with nothing behind it
+  module _ {w : Want} {run : List ℕ} (begins : Begins w run) {at seen : ℕ} {e : Exposure} (at-source : at ≡ meshIn net .source) (seen-source : seen ≡ with 0 at) (none : e ≡ toNothing) where
+    pub ready-first : InRange w → Finding net run at (behind seen 0 e)
+    ready-first range =
+        record {
+          words = words;
+          under-way = record { size = begins .size; range = rw (begins .want) range; none-yet = begins .none-yet };
+          node = omega (arith, words .source-node);
+          goes-on = λ x. words .ends-differ (sym at-source ∙ x);
+          not-past = omega arith;
+          came = trail-start (meshIn net) (wantIn run .main) at-source;
+        }
 
-      pub first-outcome : {r : Sought} → r ≡ soughtFrom (meshIn net) w at met (routeIn t) (record { found = false; passed = 0; route = routeIn t }) → Outcome (meshIn net) w (paths (meshIn net)) r
-      first-outcome e = rw (e, source-paths net words 0 toNothing at-source met-source, held .route) (fold-outcome (meshIn net) w (paths (meshIn net)))
+    module _ {after : List ℕ} (s : Seeks net at (behind seen 0 e) run after) where
+      -- no route has more arcs
+      pub known-after : ArcsKnown net after mostArcs
+      known-after =
+          known-most (s .known) (omega (arith, unmet-source (meshIn net .source) (words .source-node), ap (unmet 32) seen-source, ap (λ (v : ℕ). unmet 32 (with 0 v)) at-source))
+
+      -- and all paths are gone over
+      pub first-outcome : (t : Track) → Holds t (routeOf (arcsIn net) (arcsFound after)) → Sure (meshIn net) w
+          → Outcome (meshIn net) w (paths (meshIn net)) (soughtIn (record { found = ltb 0 (wordAt after countAt); passed = wordAt after passedAt; track = t }))
+      unfolding routeOf metresOf exposureOf
+      first-outcome t held sure = subst (Outcome (meshIn net) w (paths (meshIn net))) (sym found) (fold-outcome (meshIn net) w (paths (meshIn net)))
+        where
+          same : seen ≡ with 0 (meshIn net .source) → e ≡ toNothing → behind seen 0 e ≡ start (meshIn net)
+          same p q = rw (p, q)
+
+          first : soughtSoFar (arcsIn net) run ≡ begin (meshIn net) w
+          first = none-so-far (arcsIn net) run (begins .none-yet) ∙ ap (λ (p : ℕ). record { found = false; passed = p; route = noRoute }) (begins .none-passed)
+
+          searched : soughtSoFar (arcsIn net) after ≡ foldl (seek (meshIn net) w (start (meshIn net))) (begin (meshIn net) w) (paths (meshIn net))
+          searched =
+              s .sought (subst (Sure (meshIn net)) (sym (begins .want)) sure)
+              ∙ ap₂ (λ (x : Want) (y : Sought). soughtFrom (meshIn net) x at (behind seen 0 e) y) (begins .want) first
+              ∙ ap₂ (λ (b : Behind) (l : List (List ℕ)). foldl (seek (meshIn net) w b) (begin (meshIn net) w) l) (same (seen-source ∙ ap (with 0) at-source) none) (source-paths net words 0 e at-source seen-source)
+
+          found : soughtIn (record { found = ltb 0 (wordAt after countAt); passed = wordAt after passedAt; track = t })
+              ≡ foldl (seek (meshIn net) w (start (meshIn net))) (begin (meshIn net) w) (paths (meshIn net))
+          found = ap (λ (r : Route). record { found = ltb 0 (wordAt after countAt); passed = wordAt after passedAt; route = r }) (held .route) ∙ searched

@@ -1,25 +1,27 @@
 -- The first route of a wanted length that passes a test, in depth-first order, and, of mains, how many of that length stand before it. Assumes nothing.
-use Prim.Native.Nat.{ℕ, suc, _+_, _≤_, _<_, min}
+use Prim.Native.Nat.{ℕ, _+_, _≤_, _<_, min}
 use mathlib.Core.Bool.{Bool, true, false}
-use mathlib.Core.List.{List, [], _∷_, _++_, foldl, List·Memᴰ}
+use mathlib.Core.List.{List, _∷_, _++_, foldl, List·Memᴰ}
 use mathlib.Core.Path.{_≡_}
 use lib.Dec.{eqb, ltb}
 use lib.ListN.{length}
 use Rattle.laws.specs.Choosing.{if_then_else_, keep}
-use Rattle.laws.specs.Sets.{bit, unmet}
+use Rattle.laws.specs.Sets.{bit}
 use Rattle.problem.specs.declared.Arc.{Arc}
 use Rattle.problem.specs.declared.Exposure.{Exposure}
-use Rattle.problem.specs.Table.{lastNode, mostArcs, mostReach, mostAllowance}
-use Rattle.problem.specs.Exposures.{exposed, ofArc, common, sharing}
-use Rattle.problem.specs.Routes.{Mesh, arcAt, metresOf, exposureOf, Way, grow, paths, Route, routeOf}
+use Rattle.problem.specs.Table.{lastNode, mostReach, mostAllowance}
+use Rattle.problem.specs.Exposures.{exposed, ofArc, joined, common, sharing}
+use Rattle.problem.specs.Routes.{Mesh, metresOf, exposureOf, Way, paths, Route, routeOf}
 use Rattle.problem.specs.Pairs.{noRoute}
 use Rattle.keys.specs.Keys.{standbyKey, noStandby}
-use Rattle.net.specs.Net.{wordAt, meshIn, Net}
+use Rattle.net.specs.declared.Behind.{Behind}
+use Rattle.net.specs.Net.{wordAt}
+use Rattle.net.specs.Search.{onward}
 use Rattle.standby.specs.Standby.{leastKey}
 use Rattle.standby.specs.Ahead.{quest, NoneBelow}
 use Rattle.labels.specs.Labels.{labelledAt, labelMetres, labelExposure, Labelled}
-use Rattle.track.specs.declared.Track.{Track}
-use Rattle.track.specs.Track.{routeIn, Fit, onward}
+use Rattle.track.specs.Track as track
+use Rattle.track.specs.Track.{routeIn}
 use Rattle.find.specs.declared.Want.{Want}
 use Rattle.find.specs.declared.Found.{Found}
 
@@ -49,7 +51,8 @@ pub record Sure (m : Mesh) (w : Want) : Type 0 where
 
 -- ---- what is found
 
--- the search so far: whether the route was found, how many of the wanted length came before it (only mains are counted), and the route
+-- the search so far: whether the route was found, how many of the wanted length came before it (only mains are counted), and the route, as far as it lies
+-- ahead of where the search set out
 pub record Sought : Type 0 where
   pub found : Bool
   pub passed : ℕ
@@ -92,38 +95,30 @@ OutcomeOverAll m w s = Outcome m w (paths m) s
 
 -- ---- the search, route by route
 
--- after one more route: once found, nothing changes; of those that are not wanted, only mains are counted
-unfoldable pub meet : Mesh → Want → Sought → Route → Sought
-meet m w s r =
+-- after one more route, of so many metres and exposed to this, with the arcs ks ahead of where the search set out: once found, nothing changes; of those that
+-- are not wanted, only mains are counted
+unfoldable pub meet : Mesh → Want → Sought → (metres : ℕ) → Exposure → List ℕ → Sought
+meet m w s metres e ks =
     if s .found then s
-    else (if eqb (r .metres) (w .metres)
-    then (if isWanted m w (r .exposure)
-    then record { found = true; passed = s .passed; route = r }
+    else (if eqb metres (w .metres)
+    then (if isWanted m w e
+    then record { found = true; passed = s .passed; route = routeOf (m .arcs) ks }
     else (if w .as_main
     then record { found = false; passed = min (s .passed + 1) mostAllowance; route = s .route }
     else s))
     else s)
 
--- the route that goes on over arc number k, which is a
-abbrev pub overArc : Route → ℕ → Arc → Route
-overArc r k a = onward r k (a .metres) (ofArc a)
-
--- over the arcs ks, one after the other
-unfoldable pub along : List Arc → Route → List ℕ → Route
-along arcs r [] = r
-along arcs r (k ∷ ks) = along arcs (overArc r k (arcAt arcs k)) ks
-
--- after one more list: `behind` lies behind, ks ahead
-unfoldable pub seek : Mesh → Want → Route → Sought → List ℕ → Sought
-seek m w behind s ks = meet m w s (along (m .arcs) behind ks)
+-- after one more list: b lies behind, ks ahead
+unfoldable pub seek : Mesh → Want → Behind → Sought → List ℕ → Sought
+seek m w b s ks = meet m w s (b .metres + metresOf (m .arcs) ks) (joined (b .exposure) (exposureOf (m .arcs) ks)) ks
 
 -- after all that goes on from a node
-abbrev pub soughtFrom : Mesh → Want → (at met : ℕ) → Route → Sought → Sought
-soughtFrom m w at met behind s = foldl (seek m w behind) s (grow (m .arcs) (m .terminal) (suc (unmet 32 met)) met at)
+abbrev pub soughtFrom : Mesh → Want → ℕ → Behind → Sought → Sought
+soughtFrom m w at b s = foldl (seek m w b) s (onward m b at)
 
--- the same, with the track t behind it
-abbrev pub soughtOn : Mesh → Want → (at met : ℕ) → Track → Found → Sought
-soughtOn m w at met t s = soughtFrom m w at met (routeIn t) (soughtIn s)
+-- the route that goes on over arc number k, which is a
+abbrev pub overArc : Route → ℕ → Arc → Route
+overArc r k a = track.onward r k (a .metres) (ofArc a)
 
 -- ---- what came to a node
 
@@ -142,16 +137,3 @@ pub record Trails (m : Mesh) (w : Want) (store : List ℕ) : Type 0 where
 pub data Arrived (w : Want) (v metres : ℕ) (e : Exposure) (before after : List ℕ) : Type 0 where
   same : after ≡ before → Arrived w v metres e before after
   labelled : Labelled v metres (common (w .main) e) before after → Arrived w v metres e before after
-
--- ---- the code's search
-
--- what a search may count on at a node, with the track t behind it
-pub record Finding (net : List ℕ) (w : Want) (at met : ℕ) (t : Track) : Type 0 where
-  pub words : Net net
-  pub range : InRange w
-  pub node : at ≤ lastNode
-  pub goes-on : at ≡ meshIn net .terminal → ⊥
-  pub fit : Fit t
-  pub room : t .count + unmet 32 met ≤ mostArcs
-  pub not-past : t .metres ≤ w .metres
-  pub came : Trail (meshIn net) (w .main) at (t .metres) (t .exposure)

@@ -1,6 +1,7 @@
 // Finds, in depth-first order, the first route of a wanted length that passes a test, and hands back its arcs. A lent store, in which searches for standbys
 // remember what they learn, is handed on to the test; the search for a standby itself leaves labels there.
 use look::Leg;
+use net::Behind;
 use problem::Exposure;
 use track::Track;
 ghost use mathlib.Core.Path.{_≡_};
@@ -8,12 +9,13 @@ ghost use mathlib.Core.Bool.{true, false};
 ghost use Prim.Native.Nat.{_+_, _<_, _≤_, min};
 ghost use lib.ListN.{length};
 ghost use Rattle.problem.specs.Table.{lastNode, mostArcs, mostReach, mostAllowance};
-ghost use Rattle.problem.specs.Routes.{arcAt};
-ghost use Rattle.net.specs.Net.{Net, arcsIn, meshIn};
+ghost use Rattle.problem.specs.Routes.{arcAt, routeOf};
+ghost use Rattle.net.specs.Net.{Net, wordAt, arcsIn, meshIn};
 ghost use Rattle.labels.specs.Labels.{labelWords, Shorter};
 ghost use Rattle.cores.specs.Cores.{Stored};
 ghost use Rattle.track.specs.Track.{routeIn, Fit, Holds};
-ghost use Rattle.find.specs.Find.{isWanted, sharesTooMuch, InRange, Sure, soughtIn, overArc, meet, soughtOn, OutcomeOverAll, Trails, Arrived, Finding};
+ghost use Rattle.find.specs.Find.{isWanted, sharesTooMuch, InRange, Sure, soughtIn, overArc, OutcomeOverAll, Trails, Arrived};
+ghost use Rattle.find.specs.Run.{runSize, places, countAt, wantIn, arcsFound, behindBy, Begins, UnderWay, ArcsKnown, PutDown, Meets, Finding, Seeks};
 
 // No allowance is larger (01), so more are not counted.
 const MOST_PASSED: u64 = problem::MOST_ALLOWANCE as u64;
@@ -94,39 +96,159 @@ fn one_more(passed: u64) -> u64
     MOST_PASSED
 }
 
-// The search after one more route, which t holds.
+// A search under way in words: what is wanted, how many have passed, and the arcs of the route, put down from its last to its first once it is found. So one
+// reference is handed on from call to call, and no call holds a track.
+const RUN_WORDS: usize = ARCS + problem::PLACES;
+
+const METRES: usize = 0;
+
+const KEY: usize = 1;
+
+const RISKS: usize = 2;
+
+const LOW: usize = 3;
+
+const HIGH: usize = 4;
+
+const AS_MAIN: usize = 5;
+
+const PASSED: usize = 6;
+
+// How many arcs are put down: 0 until the route is found.
+const COUNT: usize = 7;
+
+const ARCS: usize = 8;
+
+// The words that a search for this begins with.
+fn run_for(want: Want) -> [u64; RUN_WORDS]
+    ensures { λ r. ⌜ Begins want r ⌝ }
+{
+    let mut run = [0; RUN_WORDS];
+    run[METRES] = want.metres;
+    run[KEY] = want.key;
+    run[RISKS] = want.main.risks;
+    run[LOW] = want.main.low;
+    run[HIGH] = want.main.high;
+    run[AS_MAIN] = want.as_main as u64;
+    run
+}
+
+// What is wanted.
+fn want_in(run: &[u64; RUN_WORDS]) -> Want
+    ensures { λ r. ⌜ r ≡ wantIn (now (run .entry)) ⌝ }
+{
+    let main = Exposure {
+        risks: run[RISKS],
+        low: run[LOW],
+        high: run[HIGH],
+    };
+    Want {
+        metres: run[METRES],
+        key: run[KEY],
+        main: main,
+        as_main: 0 < run[AS_MAIN],
+    }
+}
+
+// Arc k goes in front of those put down.
+fn put_down(run: &mut [u64; RUN_WORDS], k: u64)
+    requires { ⌜ (length (now run) ≡ runSize) × (wordAt (now run) countAt < places) ⌝ }
+    ensures { λ _. ⌜ PutDown k (now (run .entry)) (now (run .exit)) ⌝ }
+{
+    let n = run[COUNT];
+    run[ARCS + n as usize] = k;
+    run[COUNT] = n + 1;
+}
+
+// A route ended with arc k, and `route` lies behind its end: if it is the wanted one, k is put down, and else only mains are counted.
 fn meet(
     net: &[u64; net::SIZE],
+    run: &mut [u64; RUN_WORDS],
     store: &mut [u64; cores::OWN_WORDS],
-    want: Want,
-    t: Track,
-    s: Found,
-) -> Found
-    requires { ⌜ Net (now net) × Stored (now net) (now store) × InRange want × Fit t × Fit (s .track) × (s .found ≡ false) ⌝ }
-    ensures fit { λ r. ⌜ Fit (r .track) ⌝ }
-    ensures sought { λ r. ⌜ soughtIn r ≡ meet (meshIn (now (net .entry))) want (soughtIn s) (routeIn t) ⌝ }
+    k: u64,
+    route: Behind,
+)
+    requires { ⌜ Net (now net) × UnderWay (now run) × Stored (now net) (now store) × (k < length (arcsIn (now net))) ⌝ }
+    ensures meets { λ _. ⌜ Meets (now (net .entry)) k route (now (run .entry)) (now (run .exit)) ⌝ }
     ensures stored { λ _. ⌜ Stored (now (net .entry)) (now (store .exit)) ⌝ }
-    ensures same { λ _. ⌜ (want .as_main ≡ false → now (store .exit) ≡ now (store .entry)) ⌝ }
+    ensures same { λ _. ⌜ (wantIn (now (run .entry)) .as_main ≡ false → now (store .exit) ≡ now (store .entry)) ⌝ }
 {
-    if t.metres as u64 != want.metres {
-        return s;
+    if route.metres != run[METRES] {
+        return;
     }
-    if wanted(net, store, want, t.exposure) {
-        return Found {
-            found: true,
-            passed: s.passed,
-            track: t,
-        };
+    let want = want_in(run);
+    if wanted(net, store, want, route.exposure) {
+        put_down(run, k);
+        return;
     }
     if want.as_main {
-        let kept = s.track;
-        return Found {
-            found: false,
-            passed: one_more(s.passed),
-            track: kept,
-        };
+        run[PASSED] = one_more(run[PASSED]);
     }
-    s
+}
+
+// The search over all that goes on from `at`, but for what is too long, shares too much or comes late. It stops at the first wanted route: then each call puts
+// down the arc it went over, in front of those ahead. What lies behind is exposed to these risks and spans, handed on one by one, as in the sweep.
+fn seek(
+    net: &[u64; net::SIZE],
+    run: &mut [u64; RUN_WORDS],
+    store: &mut [u64; cores::OWN_WORDS],
+    at: u64,
+    met: u64,
+    metres: u64,
+    risks: u64,
+    low: u64,
+    high: u64,
+)
+    requires { ⌜ Finding (now net) (now run) at (behindBy met metres risks low high) ⌝ }
+    requires { ⌜ Stored (now net) (now store) × Trails (meshIn (now net)) (wantIn (now run)) (now store) ⌝ }
+    ensures seeks { λ _. ⌜ Seeks (now (net .entry)) at (behindBy met metres risks low high) (now (run .entry)) (now (run .exit)) ⌝ }
+    ensures stored { λ _. ⌜ Stored (now (net .entry)) (now (store .exit)) ⌝ }
+    ensures trails { λ _. ⌜ Trails (meshIn (now (net .entry))) (wantIn (now (run .entry))) (now (store .exit)) ⌝ }
+{
+    let mut i = net::first(net, at);
+    while i < net::arc_count(net) {
+        let k = i;
+        i = net::next(net, k);
+        let e = Exposure {
+            risks: risks,
+            low: low,
+            high: high,
+        };
+        match look::look(net, k, met, metres, e, run[METRES]) {
+            Leg::Met => {}
+            Leg::Past(_) => {}
+            Leg::Ends(route) => {
+                meet(net, run, store, k, route);
+                if 0 < run[COUNT] {
+                    return;
+                }
+            }
+            Leg::Leads(head, on) => {
+                let want = want_in(run);
+                if shares_too_much(want, on.exposure) {
+                    continue;
+                }
+                if comes_late(store, want, head, on.metres, on.exposure) {
+                    continue;
+                }
+                seek(
+                    net,
+                    run,
+                    store,
+                    head,
+                    on.met,
+                    on.metres,
+                    on.exposure.risks,
+                    on.exposure.low,
+                    on.exposure.high,
+                );
+                if 0 < run[COUNT] {
+                    put_down(run, k);
+                    return;
+                }
+            }
+        }
+    }
 }
 
 // The track t with arc i at its end.
@@ -138,51 +260,18 @@ fn over(net: &[u64; net::SIZE], i: u64, t: Track) -> Track
     track::extend(t, i as u8, metres, net::exposure(net, i))
 }
 
-// The search over all that goes on from `at`, with the track t behind it, but for what is too long, shares too much or comes late; it stops at the first
-// wanted route.
-fn seek(
-    net: &[u64; net::SIZE],
-    store: &mut [u64; cores::OWN_WORDS],
-    want: Want,
-    at: u64,
-    met: u64,
-    t: Track,
-    s: Found,
-) -> Found
-    requires { ⌜ Finding (now net) want at met t × Stored (now net) (now store) × Fit (s .track) × Trails (meshIn (now net)) want (now store) ⌝ }
-    ensures fit { λ r. ⌜ Fit (r .track) ⌝ }
-    ensures sought { λ r. ⌜ (Sure (meshIn (now (net .entry))) want → soughtIn r ≡ soughtOn (meshIn (now (net .entry))) want at met t s) ⌝ }
-    ensures stored { λ _. ⌜ Stored (now (net .entry)) (now (store .exit)) ⌝ }
-    ensures trails { λ _. ⌜ Trails (meshIn (now (net .entry))) want (now (store .exit)) ⌝ }
+// The track of the arcs put down.
+fn track_in(net: &[u64; net::SIZE], run: &[u64; RUN_WORDS]) -> Track
+    requires { ⌜ Net (now net) × ArcsKnown (now net) (now run) mostArcs ⌝ }
+    ensures { λ r. ⌜ Holds r (routeOf (arcsIn (now (net .entry))) (arcsFound (now (run .entry)))) ⌝ }
 {
-    let n = net::arc_count(net);
-    let mut f = s;
-    let mut i = net::first(net, at);
-    while i < n {
-        if f.found {
-            return f;
-        }
-        let k = i;
-        i = net::next(net, k);
-        let metres = t.metres as u64;
-        match look::look(net, k, met, metres, t.exposure, want.metres) {
-            Leg::Met => {}
-            Leg::Past(_) => {}
-            Leg::Ends(_) => {
-                f = meet(net, store, want, over(net, k, t), f);
-            }
-            Leg::Leads(head, on) => {
-                if shares_too_much(want, on.exposure) {
-                    continue;
-                }
-                if comes_late(store, want, head, on.metres, on.exposure) {
-                    continue;
-                }
-                f = seek(net, store, want, head, on.met, over(net, k, t), f);
-            }
-        }
+    let mut t = track::empty();
+    let mut n = run[COUNT];
+    while 0 < n {
+        n = n - 1;
+        t = over(net, run[ARCS + n as usize], t);
     }
-    f
+    t
 }
 
 // The first route, in depth-first order, that is wanted: as a main, or as a standby where its key is the least of all standbys of that main.
@@ -195,11 +284,12 @@ pub fn first_route(net: &[u64; net::SIZE], store: &mut [u64; cores::OWN_WORDS], 
     labels::clear(store);
     let source = net::source(net);
     let met = sets::with(0, source as u8);
-    let t = track::empty();
-    let s = Found {
-        found: false,
-        passed: 0,
-        track: t,
-    };
-    seek(net, store, want, source, met, t, s)
+    let mut run = run_for(want);
+    seek(net, &mut run, store, source, met, 0, 0, 0, 0);
+    let track = track_in(net, &run);
+    Found {
+        found: 0 < run[COUNT],
+        passed: run[PASSED],
+        track: track,
+    }
 }

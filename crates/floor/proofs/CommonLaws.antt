@@ -31,7 +31,7 @@ module _ (m : Mesh) where
   pub left-start : (all first : Exposure) → all ≡ toAll → Narrowed m all first → Left first 0
   left-start all first e n =
       let from : Narrowed m toAll first = rw e at n in
-      record { within = from .fewer; kept = λ b h o. from .kept b o (exposed-all b h); decided = λ b h. absurd (omega arith) }
+      record { within = from .fewer; kept = λ b h o. from .kept b h o (exposed-all b h); decided = λ b h. absurd (omega arith) }
 
   -- where all of it is known to lie on every way, nothing is left to ask
   pub left-sure : (left : Exposure) → Left left 0 → ((b : ℕ) → exposed left b ≡ 1 → OnEveryWay m b) → Left left hazards
@@ -40,7 +40,7 @@ module _ (m : Mesh) where
   pub left-on : (left : Exposure) (r : ℕ) (after : Exposure) → Left left r → Asked m left r after → Left after (r + 1)
   left-on left r after s a = record {
     within = λ b. omega (arith, a .narrowing .fewer b, s .within b);
-    kept = λ b h o. a .narrowing .kept b o (s .kept b h o);
+    kept = λ b h o. a .narrowing .kept b h o (s .kept b h o);
     decided = below-more (λ (b : ℕ). exposed after b ≡ 1 → OnEveryWay m b) r
         (λ b h e. s .decided b h (omega (arith, e, a .narrowing .fewer b, exposed-le-one left b))) (a .decided);
   }

@@ -3,12 +3,23 @@ use mathlib.Core.Path.{_≡_}
 use mathlib.Core.Bool.{Bool, true, false}
 use mathlib.Core.List.{List}
 use Prim.Native.Nat.{ℕ, _≤_, _<_, max}
-use lib.ListN.{length}
+use lib.ListN.{length, getD, set, replicate}
 use Rattle.problem.specs.declared.Arc.{Arc}
-use Rattle.problem.specs.Exposures.{exposed, toNothing, ofArc}
+use Rattle.problem.specs.declared.Exposure.{Exposure}
+use Rattle.problem.specs.Table.{nodes, hazards}
+use Rattle.problem.specs.Exposures.{exposed, toNothing, toAll, ofArc}
 use Rattle.problem.specs.Routes.{Mesh, arcAt, metresOf, exposureOf, Way}
-use Rattle.side.specs.declared.Side.{Side}
-use Rattle.side.specs.Side.{reachedAt, metresAt, exposureAt}
+use Rattle.side.specs.declared.Distance.{Distance}
+use Rattle.side.specs.Side.{reachedAt, metresAt}
+use Rattle.floor.specs.declared.Ways.{Ways}
+
+-- what no way found from v avoids
+abbrev pub exposureAt : Ways → ℕ → Exposure
+exposureAt s v = getD (s .exposures) v toNothing
+
+-- before any round: nothing is known to be avoided, but everything at the terminal
+unfoldable pub startOf : (plain : List Distance) (terminal : ℕ) → Ways
+startOf plain terminal = record { entries = plain; exposures = set (replicate nodes toAll) terminal toNothing }
 
 module _ (arcs : List Arc) (terminal : ℕ) where
   -- a way from v that is free of risk b and no longer than the given length
@@ -19,26 +30,26 @@ module _ (arcs : List Arc) (terminal : ℕ) where
     pub short : metresOf arcs list ≤ metres
 
   -- begun with the entries of `plain`: a risk that a reached node is not exposed to can be avoided from there; lengths that have grown are within reach
-  pub record Clearing (reach : ℕ) (plain s : Side) : Type 0 where
-    pub entries-size : length (s .entries) ≡ 32
-    pub exposures-size : length (s .exposures) ≡ 32
-    pub same-reached : (v : ℕ) → reachedAt s v ≡ reachedAt plain v
-    pub avoids : (v : ℕ) → reachedAt s v ≡ true → (b : ℕ) → exposed (exposureAt s v) b ≡ 0 → Avoids v b (metresAt s v)
-    pub within : (v : ℕ) → metresAt s v ≤ max reach (metresAt plain v)
+  pub record Clearing (reach : ℕ) (plain : List Distance) (s : Ways) : Type 0 where
+    pub entries-size : length (s .entries) ≡ nodes
+    pub exposures-size : length (s .exposures) ≡ nodes
+    pub same-reached : (v : ℕ) → reachedAt (s .entries) v ≡ reachedAt plain v
+    pub avoids : (v : ℕ) → reachedAt (s .entries) v ≡ true → (b : ℕ) → b < hazards → exposed (exposureAt s v) b ≡ 0 → Avoids v b (metresAt (s .entries) v)
+    pub within : (v : ℕ) → metresAt (s .entries) v ≤ max reach (metresAt plain v)
     pub terminal-clear : exposureAt s terminal ≡ toNothing
 
 -- the end of it: where that is sure, every risk that the source is exposed to lies on every way, of whatever length
-pub record Finished (m : Mesh) (plain s : Side) (sure : Bool) : Type 0 where
+pub record Finished (m : Mesh) (plain : List Distance) (s : Ways) (sure : Bool) : Type 0 where
   pub clearing : Clearing (m .arcs) (m .terminal) (m .reach) plain s
   pub on-every : sure ≡ true → (b : ℕ) → exposed (exposureAt s (m .source)) b ≡ 1 → (ks : List ℕ) → Way (m .arcs) (m .source) (m .terminal) ks → exposed (exposureOf (m .arcs) ks) b ≡ 1
 
 module _ (arcs : List Arc) where
   -- over none of the first n arcs a tail can avoid more
-  abbrev pub Settled : ℕ → Side → Type 0
-  Settled n s = (k : ℕ) → k < n → reachedAt s (arcAt arcs k .head) ≡ true → (b : ℕ)
+  abbrev pub Settled : ℕ → Ways → Type 0
+  Settled n s = (k : ℕ) → k < n → reachedAt (s .entries) (arcAt arcs k .head) ≡ true → (b : ℕ)
       → exposed (exposureAt s (arcAt arcs k .tail)) b ≤ max (exposed (ofArc (arcAt arcs k)) b) (exposed (exposureAt s (arcAt arcs k .head)) b)
 
   -- what a round leaves that has gone over the first n arcs
-  pub record Rounded (reach : ℕ) (from : Side) (n : ℕ) (s : Side) (changed cut : Bool) : Type 0 where
-    pub clears : (terminal : ℕ) (plain : Side) → Clearing arcs terminal reach plain from → Clearing arcs terminal reach plain s
+  pub record Rounded (reach : ℕ) (from : Ways) (n : ℕ) (s : Ways) (changed cut : Bool) : Type 0 where
+    pub clears : (terminal : ℕ) (plain : List Distance) → Clearing arcs terminal reach plain from → Clearing arcs terminal reach plain s
     pub settles : changed ≡ false → cut ≡ false → Settled n s

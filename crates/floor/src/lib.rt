@@ -2,7 +2,6 @@
 use problem::Exposure;
 use problem::Request;
 use side::Distance;
-use side::Side;
 ghost use mathlib.Core.Path.{_≡_};
 ghost use mathlib.Core.Bool.{true};
 ghost use Prim.Native.Nat.{_+_, _≤_, _<_, max};
@@ -12,26 +11,48 @@ ghost use Rattle.problem.specs.Exposures.{toNothing};
 ghost use Rattle.problem.specs.Routes.{ranking};
 ghost use Rattle.problem.specs.Pairs.{onEvery};
 ghost use Rattle.problem.specs.Reply.{meshOver, Checked};
+ghost use Rattle.chain.specs.declared.End.{End};
+ghost use Rattle.chain.specs.Chain.{endOf, Chain};
 ghost use Rattle.side.specs.Side.{SideTable};
-ghost use Rattle.floor.specs.Clearing.{Rounded, Finished};
-ghost use Rattle.floor.specs.Floor.{narrowed, Asked};
+ghost use Rattle.floor.specs.Clearing.{startOf, Rounded, Finished};
+ghost use Rattle.floor.specs.Floor.{isNear, narrowed, Asked};
 
 // A way without loops has at most 31 arcs, so that 31 rounds clear what can be cleared and one more clears nothing. No promise rests on it: the
 // bound only makes it plain that the rounds end.
 const MOST_ROUNDS: u8 = 32;
 
-// After a round of clearing. A node's exposure is what no way found from it avoids; each other risk is avoided by one that is no longer
-// than the node's entry says. Whether the round has cleared a risk, and whether the reach has kept an arc from clearing one.
+// What clearing holds, node by node: whether a way leads to the terminal, a length, and what no way found of at most that length avoids; each
+// other risk is avoided by one of these.
+struct Ways {
+    entries: [Distance; problem::NODES],
+    exposures: [Exposure; problem::NODES],
+}
+
+// After a round of clearing: whether the round has cleared a risk, and whether the reach has kept an arc from clearing one.
 struct Cleared {
-    side: Side,
+    ways: Ways,
     changed: bool,
     cut: bool,
 }
 
 // After the last round: whether what the source is still exposed to is sure to lie on every way.
 struct Known {
-    side: Side,
+    ways: Ways,
     sure: bool,
+}
+
+// Before any round: no way is known that avoids anything. From the terminal, no arc at all avoids every risk.
+fn start(plain: [Distance; problem::NODES], terminal: usize) -> Ways
+    requires { ⌜ terminal ≤ lastNode ⌝ }
+    ensures { λ o. ⌜ o ≡ startOf plain terminal ⌝ }
+{
+    let all = exposure::all();
+    let mut exposures = [all; problem::NODES];
+    exposures[terminal] = exposure::nothing();
+    Ways {
+        entries: plain,
+        exposures: exposures,
+    }
 }
 
 // A length and one arc more: as wide as it takes, since the reach may be any number.
@@ -56,9 +77,9 @@ fn lengthened(e: Distance, metres: u32) -> Distance
 
 // Goes over every arc once, in order: the tail can avoid what the head can, but for what the arc is exposed to. All risks are cleared side by side, so
 // that a few rounds do what would take a side table for each risk.
-fn round(table: &[u8], reach: u32, from: Side) -> Cleared
+fn round(table: &[u8], reach: u32, from: Ways) -> Cleared
     requires { ⌜ allSound (arcsOf (now table)) ≡ true ⌝ }
-    ensures { λ o. ⌜ Rounded (arcsOf (now (table .entry))) reach from (length (arcsOf (now (table .entry)))) (o .side) (o .changed) (o .cut) ⌝ }
+    ensures { λ o. ⌜ Rounded (arcsOf (now (table .entry))) reach from (length (arcsOf (now (table .entry)))) (o .ways) (o .changed) (o .cut) ⌝ }
 {
     let n = table.len() / problem::ARC_BYTES;
     let mut s = from;
@@ -92,92 +113,105 @@ fn round(table: &[u8], reach: u32, from: Side) -> Cleared
         }
     }
     Cleared {
-        side: s,
+        ways: s,
         changed: changed,
         cut: cut,
     }
 }
 
-// Clears risks round by round, until a round clears none or the source has none left. The side table with nothing banned is where it begins: its
-// ways avoid all but what they are exposed to. From the terminal, no arc at all avoids every risk.
-fn clear(table: &[u8], q: Request, plain: Side) -> Known
+// Clears risks round by round, until a round clears none or the source has none left. The lengths begin with those of the side table with nothing banned.
+fn clear(table: &[u8], q: Request, plain: [Distance; problem::NODES]) -> Known
     requires { ⌜ Checked (now table) q ⌝ }
     requires { ⌜ SideTable (arcsOf (now table)) (q .terminal) toNothing plain ⌝ }
-    ensures { λ o. ⌜ Finished (meshOver (arcsOf (now (table .entry))) q) plain (o .side) (o .sure) ⌝ }
+    ensures { λ o. ⌜ Finished (meshOver (arcsOf (now (table .entry))) q) plain (o .ways) (o .sure) ⌝ }
 {
-    let nothing = exposure::nothing();
-    let mut s = plain;
-    s.exposures[q.terminal as usize] = nothing;
+    let mut s = start(plain, q.terminal as usize);
     let mut rounds: u8 = 0;
     while rounds < MOST_ROUNDS {
         rounds = rounds + 1;
         let c = round(table, q.reach, s);
-        s = c.side;
+        s = c.ways;
         if !c.changed {
             return Known {
-                side: s,
+                ways: s,
                 sure: !c.cut,
             };
         }
-        if exposure::is_same(s.exposures[q.source as usize], nothing) {
+        if exposure::is_nothing(s.exposures[q.source as usize]) {
             return Known {
-                side: s,
+                ways: s,
                 sure: true,
             };
         }
     }
     Known {
-        side: s,
+        ways: s,
         sure: false,
     }
 }
 
+// Whether an entry says a way within reach.
+fn is_near(e: Distance, reach: u32) -> bool
+    ensures { λ o. ⌜ o ≡ isNear e reach ⌝ }
+{
+    if !e.reached {
+        return false;
+    }
+    e.metres <= reach
+}
+
 // Only what the source is exposed to as well, where its entry's length is within reach; else all of it.
-fn narrow(left: Exposure, s: Side, q: Request) -> Exposure
+fn narrow(left: Exposure, s: Ways, q: Request) -> Exposure
     requires { ⌜ q .source ≤ lastNode ⌝ }
     ensures { λ o. ⌜ o ≡ narrowed left s (q .source) (q .reach) ⌝ }
 {
     let at = q.source as usize;
     let entry = s.entries[at];
-    if !entry.reached {
-        return left;
-    }
-    if q.reach < entry.metres {
+    if !is_near(entry, q.reach) {
         return left;
     }
     let there = s.exposures[at];
     exposure::common(left, there)
 }
 
-// What is left once risk r of it is asked about: a way within reach that is free of r clears r, and all that it is not exposed to.
-fn ask(table: &[u8], q: Request, left: Exposure, r: u8) -> Exposure
+// What is left once risk r of it is asked about: r is taken out where a way within reach is free of it. `into` is the arcs chained by their heads.
+fn ask(table: &[u8], into: &[u8], q: Request, left: Exposure, r: u8) -> Exposure
     requires { ⌜ r < hazards ⌝ }
-    requires { ⌜ Checked (now table) q ⌝ }
+    requires { ⌜ Checked (now table) q × Chain (endOf End.Head) (arcsOf (now table)) (now into) ⌝ }
     ensures { λ o. ⌜ Asked (meshOver (arcsOf (now (table .entry))) q) left r o ⌝ }
 {
     if !exposure::is_exposed(left, r) {
         return left;
     }
     let only = exposure::one(r);
-    let s = side::side_table(table, q.terminal as u8, only);
-    narrow(left, s, q)
+    let s = side::side_table(table, into, q.terminal as u8, only);
+    let entry = s[q.source as usize];
+    if !is_near(entry, q.reach) {
+        return left;
+    }
+    exposure::all_but(left, r)
 }
 
-// What lies on every route; all that there is where there is no route. `side` is the side table with nothing banned. Clearing mostly says what
-// that is; where the reach has kept it from being sure, what it leaves is asked about risk by risk.
-pub fn common_exposure(table: &[u8], q: Request, side: Side) -> Exposure
-    requires { ⌜ Checked (now table) q ⌝ }
+// What lies on every route; all that there is where there is no route. `into` is the arcs chained by their heads, `side` the side table with nothing
+// banned. Clearing mostly says what that is; where the reach has kept it from being sure, what it leaves is asked about risk by risk.
+pub fn common_exposure(
+    table: &[u8],
+    into: &[u8],
+    q: Request,
+    side: [Distance; problem::NODES],
+) -> Exposure
+    requires { ⌜ Checked (now table) q × Chain (endOf End.Head) (arcsOf (now table)) (now into) ⌝ }
     requires { ⌜ SideTable (arcsOf (now table)) (q .terminal) toNothing side ⌝ }
     ensures { λ o. ⌜ o ≡ onEvery (ranking (meshOver (arcsOf (now (table .entry))) q)) ⌝ }
 {
     let known = clear(table, q, side);
-    let mut left = narrow(exposure::all(), known.side, q);
+    let mut left = narrow(exposure::all(), known.ways, q);
     if known.sure {
         return left;
     }
     let mut r: u8 = 0;
     while r < problem::HAZARDS {
-        left = ask(table, q, left, r);
+        left = ask(table, into, q, left, r);
         r = r + 1;
     }
     left

@@ -6,13 +6,13 @@ use native.Mathlib.Nat.{le-refl, lt-of-lt-of-le, mul-assoc, pow-suc, pow-succ', 
 use native.Mathlib.Omega.{arith}
 use lib.Arith.{lt-one}
 use lib.Bits.{bitAnd, bitOr, and-step, or-step, and-shr, or-shr, and-le-l, and-le-r, and-self, or-add-and}
-use lib.Count.{onesIn, ones, ones-step}
+use lib.Count.{onesIn, ones, ones-step, trailingZeros, under}
 use lib.ListN.{length}
 use lib.Pow.{pow-mono, pow-pos}
-use lib.Dec.{eqb, eqb·zero-suc, eqb·suc-zero, eqb·suc-suc, lit<}
-use borrow.Author.Tests.{eqb-true, eqb-false, ne-eqb}
+use lib.Dec.{eqb, ltb, eqb·zero-suc, eqb·suc-zero, eqb·suc-suc, lit<}
+use borrow.Author.Tests.{ltb-true, ltb-false, eqb-true, eqb-false, eq-eqb, ne-eqb}
 use Rattle.laws.specs.Choosing.{keep}
-use Rattle.laws.specs.Sets.{bit, with, unmet, below, inBoth}
+use Rattle.laws.specs.Sets.{bit, with, without, Lowest, unmet, below, inBoth}
 
 -- ---- the bits of a set, from the lowest on
 
@@ -64,6 +64,11 @@ pub bit-with-other : (s h r : ℕ) → (r ≡ h → ⊥) → bit (with s h) r �
 unfolding digit
 bit-with-other s h r ne = rw (bit-with s h r, ne-eqb r h ne) (omega arith)
 
+-- h itself is in it
+pub bit-with-same : (s h : ℕ) → bit (with s h) h ≡ 1
+unfolding digit
+bit-with-same s h = rw (bit-with s h h, eq-eqb h h refl) (omega (arith, bit-le-one s h))
+
 pub bit-single : (h r : ℕ) → bit (with 0 h) r ≡ digit (eqb r h)
 bit-single h r = rw (bit-with, bit-empty) (omega arith)
 
@@ -94,6 +99,13 @@ bit-past zero x r h l = rw (lt-one h) (bit-empty r)
 bit-past (suc d) x zero h l = absurd (omega arith)
 bit-past (suc d) x (suc r) h l = bit-suc x r ∙ bit-past d (x / 2) r (div-lt-iff-lt-mul (lit< tt) .1 (rw pow-suc at h)) (omega arith)
 
+pub bit-inside : (d x r : ℕ) → x < 2 ^ d → bit x r ≡ 1 → r < d
+bit-inside d x r h e = go (ltb r d) refl
+  where
+    go : (b : Bool) → ltb r d ≡ b → r < d
+    go true l = ltb-true r d l
+    go false l = absurd (omega (arith, e, bit-past d x r h (ltb-false r d l)))
+
 pub record Element (d x : ℕ) : Type 0 where
   pub place : ℕ
   pub from : d ≤ place
@@ -113,6 +125,13 @@ element-lowest (suc d) x h some = go (eqb (x % 2) 1) refl (λ more. element-half
 pub element-past : (d x : ℕ) → 2 ^ d ≤ x → Element d x
 element-past zero x h = element-lowest x x (below-pow x) (omega arith)
 element-past (suc d) x h = element-half (element-past d (x / 2) (let twice : 2 ^ suc d ≡ 2 * 2 ^ d = pow-succ' 2 d in omega arith))
+
+pub bits-below : (d x : ℕ) → ((r : ℕ) → bit x r ≡ 1 → r < d) → x < 2 ^ d
+bits-below d x f = go (ltb x (2 ^ d)) refl
+  where
+    go : (b : Bool) → ltb x (2 ^ d) ≡ b → x < 2 ^ d
+    go true e = ltb-true x (2 ^ d) e
+    go false e = let past = element-past d x (ltb-false x (2 ^ d) e) in absurd (omega (arith, past .from, f (past .place) (past .is-in)))
 
 -- a set below a power of two, and another from there on
 twice-power : (d y : ℕ) → 2 ^ suc d * y ≡ 2 * (2 ^ d * y)
@@ -154,6 +173,45 @@ pub and-within : (x y z : ℕ) → ((r : ℕ) → bit x r ≤ bit y r) → bitAn
 and-within x y z f e =
     bits-empty (bitAnd x z) (bitAnd x z) (below-pow (bitAnd x z))
     (λ r. rw bit-and (omega (arith, f r, rw bit-and at (ap (λ (s : ℕ). bit s r) e), bit-empty r)))
+
+-- ---- the lowest of a set
+
+lowest-half : (s r : ℕ) → s % 2 ≡ 0 → Lowest (s / 2) r → Lowest s (suc r)
+lowest-half s r even low = record { is-in = bit-suc s r ∙ low .is-in; least = at }
+  where
+    at : (k : ℕ) → bit s k ≡ 1 → suc r ≤ k
+    at zero e = absurd (omega (arith, bit-zero s))
+    at (suc k) e = omega (arith, low .least k (sym (bit-suc s k) ∙ e))
+
+-- the language's count of the zeros below it
+pub lowest-trailing : (d s : ℕ) → 0 < s → s < 2 ^ d → Lowest s (trailingZeros d s)
+unfolding trailingZeros
+lowest-trailing zero s p h = absurd (omega (arith, lt-one h))
+lowest-trailing (suc d) s p h = go (s % 2) refl (λ more. lowest-trailing d (s / 2) more (div-lt-iff-lt-mul (lit< tt) .1 (rw pow-suc at h)))
+  where
+    go : (b : ℕ) → s % 2 ≡ b → (0 < s / 2 → Lowest (s / 2) (trailingZeros d (s / 2))) → Lowest s (under b (trailingZeros d (s / 2)))
+    go zero e higher = lowest-half s _ e (higher (omega arith))
+    go (suc b) e higher = record { is-in = bit-zero s ∙ omega arith; least = λ k x. omega arith }
+
+lowest-even : (s r : ℕ) → Lowest s (suc r) → s % 2 ≡ 0
+lowest-even s r low = go (s % 2) refl
+  where
+    go : (b : ℕ) → s % 2 ≡ b → s % 2 ≡ 0
+    go zero e = e
+    go (suc b) e = absurd (omega (arith, low .least 0 (bit-zero s ∙ omega arith)))
+
+-- taken away, it leaves the others as they were
+pub bit-but-lowest : (s r k : ℕ) → Lowest s r → (k ≡ r → ⊥) → bit (bitAnd s (s - 1)) k ≡ bit s k
+bit-but-lowest s zero zero low other = absurd (other refl)
+bit-but-lowest s zero (suc k) low other =
+    let odd : s % 2 ≡ 1 = sym (bit-zero s) ∙ low .is-in in
+    let half : (s - 1) / 2 ≡ s / 2 = omega arith in
+    simp bit-suc (ap (λ (x : ℕ). bit x k) (and-shr s (s - 1) 1 ∙ ap (bitAnd (s / 2)) half ∙ and-self (s / 2)))
+bit-but-lowest s (suc r) zero low other = simp bit-zero (rw and-step (omega (arith, lowest-even s r low)))
+bit-but-lowest s (suc r) (suc k) low other =
+    let half : (s - 1) / 2 ≡ s / 2 - 1 = omega (arith, lowest-even s r low) in
+    let rest : Lowest (s / 2) r = record { is-in = sym (bit-suc s r) ∙ low .is-in; least = λ j e. omega (arith, low .least (suc j) (bit-suc s j ∙ e)) } in
+    simp bit-suc (ap (λ (x : ℕ). bit x k) (and-shr s (s - 1) 1 ∙ ap (bitAnd (s / 2)) half) ∙ bit-but-lowest (s / 2) r k rest (λ e. other (ap suc e)))
 
 -- ---- how many elements a set has, at the width d
 
@@ -213,6 +271,11 @@ beside-low x y = omega (arith, and-step x y, and-le-l x y, and-le-l (x / 2) (y /
 
 beside-rest : (x y : ℕ) → (x - bitAnd x y) / 2 ≡ x / 2 - bitAnd (x / 2) (y / 2)
 beside-rest x y = omega (arith, and-step x y, and-le-l x y, and-le-l (x / 2) (y / 2))
+
+pub bit-without : (x y r : ℕ) → bit (without x y) r ≡ bit x r - bit y r
+unfolding without
+bit-without x y zero = simp bit-zero (rw beside-low (omega arith))
+bit-without x y (suc r) = simp bit-suc (ap (λ (s : ℕ). bit s r) (beside-rest x y) ∙ bit-without (x / 2) (y / 2) r)
 
 -- of what m has in common with two sets, as many as with the first, and as many as it has with the second beside the first
 pub ones-new : (d m x y : ℕ) → onesIn d (bitAnd m (bitOr x y)) ≡ onesIn d (bitAnd m x) + onesIn d (bitAnd m y - bitAnd (bitAnd m y) x)

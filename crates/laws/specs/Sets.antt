@@ -1,8 +1,9 @@
 -- A set of nodes or of risks is a number: r is in it where its bit r is 1. Assumes nothing.
-use Prim.Native.Nat.{ℕ, zero, suc, _+_, _-_, _/_, _%_, _^_}
+use Prim.Native.Nat.{ℕ, zero, suc, _+_, _-_, _/_, _%_, _^_, _≤_}
 use mathlib.Core.Bool.{_&&_}
 use mathlib.Core.List.{List, [], _∷_}
-use lib.Bits.{bitOr}
+use mathlib.Core.Path.{_≡_}
+use lib.Bits.{bitAnd, bitOr}
 use lib.Dec.{eqb}
 use Rattle.laws.specs.Choosing.{keep}
 
@@ -13,6 +14,15 @@ bit set r = set / 2 ^ r % 2
 -- the set and r
 unfoldable pub with : ℕ → ℕ → ℕ
 with set r = bitOr set (2 ^ r)
+
+-- the set but for what is in another
+unfoldable pub without : ℕ → ℕ → ℕ
+without set other = set - bitAnd set other
+
+-- r is the lowest of the set
+pub record Lowest (set r : ℕ) : Type 0 where
+  pub is-in : bit set r ≡ 1
+  pub least : (k : ℕ) → bit set k ≡ 1 → r ≤ k
 
 -- how many of 0 to n - 1 are not in the set
 unfoldable pub unmet : ℕ → ℕ → ℕ

@@ -1,4 +1,4 @@
--- A table is laid out once its arcs, its nodes, its doors and its request are written one after the other: each later writing keeps the words of those before it,
+-- A table is laid out once its arcs, its nodes and its request are written one after the other: each later writing keeps the words of those before it,
 -- and the words of an arc say that arc. Assumes nothing.
 use Prim.Native.Nat.{ℕ, _+_, _*_, _/_, _%_, _≤_, _<_, _^_}
 use mathlib.Core.Bool.{Bool, true, false}
@@ -16,21 +16,22 @@ use Rattle.problem.specs.Routes.{Mesh, arcAt, metresOf, exposureOf, Way}
 use Rattle.problem.specs.Reply.{meshOver, Checked}
 use Rattle.problem.proofs.ExposureLaws.{disjoint-nothing}
 use Rattle.problem.proofs.TableLaws.{arcs-length, sound-at}
-use Rattle.side.specs.declared.Side.{Side}
+use Rattle.side.specs.declared.Distance.{Distance}
 use Rattle.side.specs.Side.{reachedAt, metresAt, SideTable}
 use Rattle.spans.specs.Marks.{NoSpan}
-use Rattle.chain.specs.Chain.{nextIn, Chain}
-use Rattle.net.specs.Net.{metresFrom, linksFrom, lowFrom, highFrom, firstFrom, lowerFrom, arcCountAt, doorCountAt, doorsFrom, netSize, wordAt, headOf, nextOf, tailOf, spanOf, arcsIn, meshIn, exposureIn, doorArc, IsDoor, Chained}
+use Rattle.chain.specs.declared.End.{End}
+use Rattle.chain.specs.Chain.{firstIn, nextIn, endOf, Chain}
+use Rattle.net.specs.Net.{metresFrom, linksFrom, lowFrom, highFrom, firstFrom, lowerFrom, arcCountAt, netSize, wordAt, headOf, nextOf, nextInOf, tailOf, spanOf, arcsIn, meshIn, exposureIn, Chained}
 use Rattle.net.proofs.NetLaws.{arcs-count, arc-is}
 use Rattle.layout.specs.Spread.{Spread}
-use Rattle.layout.specs.Layout.{linksOf, arcColumn, ArcsLaid, nodeColumn, NodesLaid, requestWords, lowerOf, Doors, DoorsLaid, LaidOut}
+use Rattle.layout.specs.Layout.{linksOf, arcColumn, ArcsLaid, nodeColumn, NodesLaid, requestWords, lowerOf, LaidOut}
 
 -- ---- lower bounds
 
-abbrev lowerAt : Side → ℕ → ℕ
+abbrev lowerAt : List Distance → ℕ → ℕ
 lowerAt side v = lowerOf (reachedAt side v) (metresAt side v)
 
-module _ {arcs : List Arc} {terminal : ℕ} {side : Side} (table : SideTable arcs terminal toNothing side) where
+module _ {arcs : List Arc} {terminal : ℕ} {side : List Distance} (table : SideTable arcs terminal toNothing side) where
   lower-reached : (v : ℕ) → reachedAt side v ≡ true → lowerAt side v ≡ metresAt side v
   unfolding lowerOf
   lower-reached v e = rw e
@@ -51,76 +52,32 @@ module _ {arcs : List Arc} {terminal : ℕ} {side : Side} (table : SideTable arc
       go true e = rw (lower-reached v e) (omega (arith, table .most-metres v))
       go false e = rw e (omega arith)
 
--- ---- doors
-
-pub doors-none : (arcs : List Arc) (terminal : ℕ) (before : List ℕ) → Doors 0 arcs terminal 0 before before
-doors-none arcs terminal before = record { size = refl; few = omega arith; here = λ k h. absurd (omega arith); inside = λ j h. absurd (omega arith); elsewhere = λ i h. refl }
-
-module _ {n : ℕ} {arcs : List Arc} {terminal count : ℕ} {before after : List ℕ} (d : Doors n arcs terminal count before after) where
-  -- an arc that leads elsewhere
-  pub doors-past : (arcAt arcs n .head ≡ terminal → ⊥) → Doors (n + 1) arcs terminal count before after
-  doors-past off = record {
-    size = d .size;
-    few = omega (arith, d .few);
-    here = λ k h e. elim (ℕ-discrete k n) [ yes q ↦ absurd (off (rw q at e)) | no m ↦ d .here k (omega arith) e ];
-    inside = λ j h. omega (arith, d .inside j h);
-    elsewhere = d .elsewhere;
-  }
-
-  -- one more door, written behind the others
-  pub doors-more : doorsFrom + count < length before → Doors (n + 1) arcs terminal (count + 1) before (set after (doorsFrom + count) n)
-  doors-more room = record {
-    size = simp length-set (d .size);
-    few = omega (arith, d .few);
-    here = λ k h e. elim (ℕ-discrete k n) [
-      | yes q ↦
-          record {
-            place = count;
-            inside = omega arith;
-            is = own ∙ sym q;
-          }
-      | no m ↦
-          let w = d .here k (omega arith) e in
-          record {
-            place = w .place;
-            inside = omega (arith, w .inside);
-            is = other (w .place) (w .inside) ∙ w .is;
-          }
-    ];
-    inside = λ j h. elim (ℕ-discrete j count) [ yes q ↦ omega (arith, ap (doorArc (set after (doorsFrom + count) n)) q, own) | no m ↦ omega (arith, other j (omega arith), d .inside j (omega arith)) ];
-    elsewhere = λ i h. getD-set-other after (doorsFrom + count) i n 0 (λ q. omega arith) ∙ d .elsewhere i h;
-  }
-    where
-      own : doorArc (set after (doorsFrom + count) n) count ≡ n
-      own = getD-set-same after (doorsFrom + count) n 0 (omega (arith, d .size))
-
-      other : (j : ℕ) → j < count → doorArc (set after (doorsFrom + count) n) j ≡ doorArc after j
-      other j h = getD-set-other after (doorsFrom + count) (doorsFrom + j) n 0 (λ q. omega arith)
-
 -- ---- all words
 
 -- what a word of links says
-record Links (a : Arc) (after word : ℕ) : Type 0 where
+record Links (a : Arc) (after after-in word : ℕ) : Type 0 where
   pub head : word % 256 ≡ a .head
   pub next : word / 256 % 256 ≡ after
   pub tail : word / 65536 % 256 ≡ a .tail
-  pub span : word / 16777216 ≡ a .span
+  pub next-in : word / 16777216 % 256 ≡ after-in
+  pub span : word / 4294967296 ≡ a .span
 
-links-say : (a : Arc) {next word : ℕ} → a .head ≤ lastNode → next ≤ mostInTable → a .tail ≤ lastNode → word ≡ linksOf a next → Links a next word
-links-say a {next} {word} h n t e = record { head = omega arith; next = omega arith; tail = omega arith; span = omega arith }
+links-say : (a : Arc) {next next-in word : ℕ} → a .head ≤ lastNode → a .tail ≤ lastNode → next ≤ mostInTable → next-in ≤ mostInTable → word ≡ linksOf a next next-in
+    → Links a next next-in word
+links-say a {next} {next-in} {word} h t n i e = record { head = omega arith; next = omega arith; tail = omega arith; next-in = omega arith; span = omega arith }
 
 -- an arc without a span is exposed to none
 unspanned : (a : Arc) → a .span ≡ 0 → (ofArc a .low ≡ 0) × (ofArc a .high ≡ 0)
 unfolding ofArc spanField
 unspanned a e = (rw e, rw e)
 
-module _ {table : List ℕ} {q : Request} {side : Side} {doors spanned : ℕ} {chain empty with-arcs with-nodes with-doors net : List ℕ}
-    (checked : Checked table q) (sides : SideTable (arcsOf table) (q .terminal) toNothing side) (chained : Chain (arcsOf table) chain) (size : length empty ≡ netSize)
-    (of-arcs : ArcsLaid (arcsOf table) chain empty with-arcs)
+module _ {table : List ℕ} {q : Request} {side : List Distance} {spanned : ℕ} {chain into empty with-arcs with-nodes net : List ℕ}
+    (checked : Checked table q) (sides : SideTable (arcsOf table) (q .terminal) toNothing side) (chained : Chain (endOf End.Tail) (arcsOf table) chain)
+    (chained-in : Chain (endOf End.Head) (arcsOf table) into) (size : length empty ≡ netSize)
+    (of-arcs : ArcsLaid (arcsOf table) chain into empty with-arcs)
     (of-nodes : NodesLaid chain side with-arcs with-nodes)
-    (of-doors : DoorsLaid (arcsOf table) (q .terminal) doors with-nodes with-doors)
     (of-spans : spanned ≡ 0 → NoSpan (arcsOf table))
-    (of-request : Spread 6 (requestWords (meshOver (arcsOf table) q) doors spanned) arcCountAt 1 with-doors net) where
+    (of-request : Spread 6 (requestWords (meshOver (arcsOf table) q) (firstIn into (q .terminal)) spanned) arcCountAt 1 with-nodes net) where
   abbrev arcs : List Arc
   arcs = arcsOf table
 
@@ -130,27 +87,14 @@ module _ {table : List ℕ} {q : Request} {side : Side} {doors spanned : ℕ} {c
   few : length arcs ≤ mostInTable
   few = omega (arith, arcs-length table, checked .few-bytes)
 
-  arc-word : (i k j : ℕ) → i ≡ 0 + k + metresFrom * j → k < length arcs → j < 5 → wordAt net i ≡ getD (arcColumn arcs chain k) j 0
+  arc-word : (i k j : ℕ) → i ≡ 0 + k + mostInTable * j → k < length arcs → j < 5 → wordAt net i ≡ getD (arcColumn arcs chain into k) j 0
   arc-word i k j e h l =
       of-request .elsewhere i (λ x m q. omega (arith, few))
-      ∙ of-doors .elsewhere i (omega (arith, few))
       ∙ of-nodes .elsewhere i (λ v x m o q. omega (arith, few))
       ∙ rw e (of-arcs .here k j h l)
 
   node-word : (i v j : ℕ) → i ≡ firstFrom + v + 32 * j → v ≤ lastNode → j < 2 → wordAt net i ≡ getD (nodeColumn chain side v) j 0
-  node-word i v j e h l = of-request .elsewhere i (λ x m q. omega arith) ∙ of-doors .elsewhere i (omega arith) ∙ rw e (of-nodes .here v j (omega arith) l)
-
-  -- the number of doors stands where it is read
-  doors-count : wordAt net doorCountAt ≡ doors
-  doors-count = of-request .here 4 (omega arith)
-
-  door-kept : (j : ℕ) → doorArc net j ≡ doorArc with-doors j
-  door-kept j = of-request .elsewhere (doorsFrom + j) (λ x m q. omega arith)
-
-  door-word : (k : ℕ) → k < length arcs → arcAt arcs k .head ≡ terminal → IsDoor k (wordAt net doorCountAt) net
-  door-word k h e =
-      let w = of-doors .here k h e in
-      record { place = w .place; inside = omega (arith, w .inside, doors-count); is = door-kept (w .place) ∙ w .is }
+  node-word i v j e h l = of-request .elsewhere i (λ x m q. omega arith) ∙ rw e (of-nodes .here v j (omega arith) l)
 
   exposure-word : (k : ℕ) → k < length arcs → exposureIn net k ≡ ofArc (arcAt arcs k)
   unfolding ofArc
@@ -166,22 +110,26 @@ module _ {table : List ℕ} {q : Request} {side : Side} {doors spanned : ℕ} {c
   says-count : length (arcsIn net) ≡ length arcs
   says-count = arcs-count net ∙ of-request .here 0 (omega arith)
 
-  links : (k : ℕ) → k < length arcs → Links (arcAt arcs k) (nextIn chain k) (wordAt net (linksFrom + k))
+  links : (k : ℕ) → k < length arcs → Links (arcAt arcs k) (nextIn chain k) (nextIn into k) (wordAt net (linksFrom + k))
   links k h =
       let sound = sound-at arcs (checked .sound) k h in
-      links-say (arcAt arcs k) (sound .head-node) (omega (arith, chained .next k h .to, few)) (sound .tail-node) (arc-word (linksFrom + k) k 2 (omega arith) h (omega arith))
+      links-say (arcAt arcs k) (sound .head-node) (sound .tail-node) (omega (arith, chained .next k h .to, few)) (omega (arith, chained-in .next k h .to, few))
+      (arc-word (linksFrom + k) k 2 (omega arith) h (omega arith))
 
   says-arc : (k : ℕ) → k < length arcs → arcAt (arcsIn net) k ≡ arcAt arcs k
   unfolding headOf tailOf spanOf
   says-arc k h =
       let l = links k h in
-      arc-is net k (omega (arith, says-count))
-      ∙ rw (l .tail, l .head, l .span, arc-word (metresFrom + k) k 1 (omega arith) h (omega arith), arc-word k k 0 (omega arith) h (omega arith))
+      arc-is net k (omega (arith, says-count)) ∙ rw (l .tail, l .head, l .span, arc-word (metresFrom + k) k 1 (omega arith) h (omega arith), arc-word k k 0 (omega arith) h (omega arith))
 
-  -- the next arc stands where it is read
+  -- the next arcs stand where they are read
   says-next : (k : ℕ) → k < length arcs → nextOf net k ≡ nextIn chain k
   unfolding nextOf
   says-next k h = links k h .next
+
+  says-next-in : (k : ℕ) → k < length arcs → nextInOf net k ≡ nextIn into k
+  unfolding nextInOf
+  says-next-in k h = links k h .next-in
 
   says-arcs : arcsIn net ≡ arcs
   says-arcs = ext-getD (arcAt [] 0) (arcsIn net) arcs says-count (λ k h. says-arc k (omega (arith, says-count)))
@@ -190,8 +138,9 @@ module _ {table : List ℕ} {q : Request} {side : Side} {doors spanned : ℕ} {c
   says-mesh = rw (says-arcs, of-request .here 1 (omega arith), of-request .here 2 (omega arith), of-request .here 3 (omega arith))
 
   hang-together : Chained (meshOver (arcsOf table) q) net
+  unfolding endOf
   hang-together = record {
-    size = of-request .size ∙ of-doors .size ∙ of-nodes .size ∙ of-arcs .size ∙ size;
+    size = of-request .size ∙ of-nodes .size ∙ of-arcs .size ∙ size;
     few = few;
     sound = checked .sound;
     source-node = checked .source-node;
@@ -205,9 +154,8 @@ module _ {table : List ℕ} {q : Request} {side : Side} {doors spanned : ℕ} {c
     lower-terminal = lower-word terminal (checked .terminal-node) ∙ lower-reached sides terminal (sides .entries .terminal-reached) ∙ sides .entries .terminal-metres;
     exposure = exposure-word;
     plain = λ e k h. unspanned (arcAt arcs k) (of-spans (sym (of-request .here 5 (omega arith)) ∙ e) k h);
-    few-doors = omega (arith, doors-count, of-doors .few, few);
-    door = door-word;
-    door-inside = λ j h. omega (arith, door-kept j, of-doors .inside j (omega (arith, doors-count)));
+    next-in = λ k h. rw (says-next-in k h) (chained-in .next k h);
+    first-door = rw (of-request .here 4 (omega arith)) (chained-in .first terminal (checked .terminal-node));
   }
 
   pub laid-out : LaidOut (meshOver (arcsOf table) q) side net

@@ -2,7 +2,7 @@
 use problem::ARC_BYTES;
 use problem::Arc;
 use problem::Request;
-use side::Side;
+use side::Distance;
 ghost use mathlib.Core.Path.{_≡_};
 ghost use Prim.Native.Nat.{ℕ, _+_, _*_, _≤_, _<_};
 ghost use lib.ListN.{length};
@@ -11,10 +11,11 @@ ghost use Rattle.problem.specs.Exposures.{toNothing};
 ghost use Rattle.problem.specs.Reply.{meshOver, Checked};
 ghost use Rattle.spans.specs.Marks.{NoSpan};
 ghost use Rattle.side.specs.Side.{SideTable};
-ghost use Rattle.chain.specs.Chain.{chainSize};
+ghost use Rattle.chain.specs.declared.End.{End};
+ghost use Rattle.chain.specs.Chain.{chainSize, endOf, Chain};
 ghost use Rattle.net.specs.Net.{netSize};
 ghost use Rattle.layout.specs.Spread.{Spread};
-ghost use Rattle.layout.specs.Layout.{linksOf, ArcsLaid, lowerOf, NodesLaid, DoorsLaid, LaidOut};
+ghost use Rattle.layout.specs.Layout.{linksOf, ArcsLaid, lowerOf, NodesLaid, LaidOut};
 
 // Where the words begin, and how far those of one arc and of one node stand apart.
 const ARC_STEP: usize = net::METRES_FROM as usize;
@@ -24,8 +25,6 @@ const NODES_FROM: usize = net::FIRST_FROM as usize;
 const NODE_STEP: usize = problem::NODES;
 
 const REQUEST_FROM: usize = net::ARC_COUNT_AT as usize;
-
-const DOORS_FROM: usize = net::DOORS_FROM as usize;
 
 // The lower bound of a node from which no way leads on: past every reach.
 pub const FAR: u64 = 4000000000;
@@ -43,26 +42,34 @@ fn spread(net: &mut [u64], at: usize, step: usize, values: &[u64])
     }
 }
 
-// An arc's links in one word: its head, the arc that comes next behind it, its tail, and above these three its span.
-fn links(a: Arc, next: u8) -> u64
-    ensures { λ r. ⌜ r ≡ linksOf a next ⌝ }
+// An arc's links in one word, as crate net says: `next` is the next arc of its tail, `next_in` the next of its head.
+fn links(a: Arc, next: u8, next_in: u8) -> u64
+    ensures { λ r. ⌜ r ≡ linksOf a next next_in ⌝ }
 {
     let forward = a.head as u64 + 256 * (next as u64);
-    forward + 65536 * (a.tail as u64) + 16777216 * (a.span as u64)
+    let backward = 65536 * (a.tail as u64) + 16777216 * (next_in as u64);
+    forward + backward + 4294967296 * (a.span as u64)
 }
 
-// Writes the words of every arc: its risks, metres and links, and the two fields of its span.
-fn lay_arcs(net: &mut [u64], table: &[u8], chain: &[u8])
-    requires { ⌜ (length (now net) ≡ netSize) × (length (now chain) ≡ chainSize) × (length (now table) ≤ mostTableBytes) ⌝ }
-    ensures { λ _. ⌜ ArcsLaid (arcsOf (now (table .entry))) (now (chain .entry)) (now (net .entry)) (now (net .exit)) ⌝ }
+// Writes the words of every arc: its risks, metres and links, and the two fields of its span. `chain` is the arcs chained by their tails, `into` by their heads.
+fn lay_arcs(net: &mut [u64], table: &[u8], chain: &[u8], into: &[u8])
+    requires { ⌜ (length (now net) ≡ netSize) × (length (now chain) ≡ chainSize) × (length (now into) ≡ chainSize) × (length (now table) ≤ mostTableBytes) ⌝ }
+    ensures { λ _. ⌜ ArcsLaid (arcsOf (now (table .entry))) (now (chain .entry)) (now (into .entry)) (now (net .entry)) (now (net .exit)) ⌝ }
 {
     let n = table.len() / ARC_BYTES;
     let mut k = 0;
     while k < n {
         let a = arcs::arc_at(table, k);
         let next = chain::next(chain, k);
+        let next_in = chain::next(into, k);
         let e = exposure::of_arc(a);
-        let fields = [a.risks, a.metres as u64, links(a, next), e.low, e.high];
+        let fields = [
+            a.risks,
+            a.metres as u64,
+            links(a, next, next_in),
+            e.low,
+            e.high,
+        ];
         spread(net, k, ARC_STEP, &fields);
         k += 1;
     }
@@ -79,7 +86,7 @@ fn lower_of(reached: bool, metres: u32) -> u64
 }
 
 // Writes the words of every node: its first arc and its lower bound.
-fn lay_nodes(net: &mut [u64], chain: &[u8], side: Side)
+fn lay_nodes(net: &mut [u64], chain: &[u8], side: [Distance; problem::NODES])
     requires { ⌜ (length (now net) ≡ netSize) × (length (now chain) ≡ chainSize) ⌝ }
     ensures { λ _. ⌜ NodesLaid (now (chain .entry)) side (now (net .entry)) (now (net .exit)) ⌝ }
 {
@@ -87,7 +94,7 @@ fn lay_nodes(net: &mut [u64], chain: &[u8], side: Side)
     while v <= problem::LAST_NODE {
         let at = v as usize;
         let first = chain::first(chain, v) as u64;
-        let entry = side.entries[at];
+        let entry = side[at];
         let lower = lower_of(entry.reached, entry.metres);
         let fields = [first, lower];
         spread(net, NODES_FROM + at, NODE_STEP, &fields);
@@ -95,44 +102,31 @@ fn lay_nodes(net: &mut [u64], chain: &[u8], side: Side)
     }
 }
 
-// Writes the number of each door, an arc into the terminal, and says how many doors there are.
-fn lay_doors(net: &mut [u64], table: &[u8], q: Request) -> usize
-    requires { ⌜ (length (now net) ≡ netSize) × (length (now table) ≤ mostTableBytes) ⌝ }
-    ensures { λ r. ⌜ DoorsLaid (arcsOf (now (table .entry))) (q .terminal) r (now (net .entry)) (now (net .exit)) ⌝ }
-{
-    let arc_count = table.len() / ARC_BYTES;
-    let mut count = 0;
-    let mut k = 0;
-    while k < arc_count {
-        let door = k;
-        let a = arcs::arc_at(table, door);
-        k += 1;
-        if a.head as u32 == q.terminal {
-            net[DOORS_FROM + count] = door as u64;
-            count += 1;
-        }
-    }
-    count
-}
-
-// Writes the table and the request as words, over whatever stands there. `side` is the side table with nothing banned, `spanned` is 0 only where no arc has a span.
-pub fn lay_out(net: &mut [u64], table: &[u8], q: Request, side: Side, spanned: u64)
-    requires { ⌜ Checked (now table) q × (spanned ≡ 0 → NoSpan (arcsOf (now table))) ⌝ }
-    requires { ⌜ SideTable (arcsOf (now table)) (q .terminal) toNothing side ⌝ }
-    requires { ⌜ length (now net) ≡ netSize ⌝ }
+// Writes the table and the request as words, over whatever stands there. `into` is the arcs chained by their heads, `side` the side table with nothing banned;
+// `spanned` is 0 only where no arc has a span.
+pub fn lay_out(
+    net: &mut [u64],
+    table: &[u8],
+    into: &[u8],
+    q: Request,
+    side: [Distance; problem::NODES],
+    spanned: u64,
+)
+    requires { ⌜ Checked (now table) q × (spanned ≡ 0 → NoSpan (arcsOf (now table))) × (length (now net) ≡ netSize) ⌝ }
+    requires { ⌜ Chain (endOf End.Head) (arcsOf (now table)) (now into) × SideTable (arcsOf (now table)) (q .terminal) toNothing side ⌝ }
     ensures { λ _. ⌜ LaidOut (meshOver (arcsOf (now (table .entry))) q) side (now (net .exit)) ⌝ }
 {
-    let chain = chain::chained(table);
+    let chain = chain::chained(table, chain::End::Tail);
     let count = table.len() / ARC_BYTES;
-    lay_arcs(net, table, &chain);
+    let door = chain::first(into, q.terminal as u8);
+    lay_arcs(net, table, &chain, into);
     lay_nodes(net, &chain, side);
-    let doors = lay_doors(net, table, q);
     let request = [
         count as u64,
         q.terminal as u64,
         q.reach as u64,
         q.source as u64,
-        doors as u64,
+        door as u64,
         spanned,
     ];
     spread(net, REQUEST_FROM, 1, &request);

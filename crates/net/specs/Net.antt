@@ -9,11 +9,10 @@ use Rattle.problem.specs.declared.Exposure.{Exposure}
 use Rattle.problem.specs.Table.{lastNode, nodes, mostReach, mostInTable, allSound}
 use Rattle.problem.specs.Exposures.{ofArc}
 use Rattle.problem.specs.Routes.{Mesh, mesh, arcAt, Way, metresOf, Route, ranking}
-use Rattle.chain.specs.Chain.{Next}
+use Rattle.chain.specs.Chain.{NextBy, Next}
 
 -- where the words of each kind begin: as many words as a table can have arcs for the arcs' risks, metres and links, and for the two fields of their spans; as many as
--- there are nodes for the nodes' first arcs and lower bounds; then the number of arcs and the request; then the number of doors, the arcs into the terminal, and their
--- numbers
+-- there are nodes for the nodes' first arcs and lower bounds; then the number of arcs and the request; then the first door, an arc into the terminal
 abbrev pub metresFrom : ℕ
 metresFrom = mostInTable
 
@@ -44,24 +43,21 @@ reachAt = suc terminalAt
 abbrev pub sourceAt : ℕ
 sourceAt = suc reachAt
 
-abbrev pub doorCountAt : ℕ
-doorCountAt = suc sourceAt
+abbrev pub firstDoorAt : ℕ
+firstDoorAt = suc sourceAt
 
 -- 0 where no arc has a span
 abbrev pub spannedAt : ℕ
-spannedAt = suc doorCountAt
-
-abbrev pub doorsFrom : ℕ
-doorsFrom = suc spannedAt
+spannedAt = suc firstDoorAt
 
 abbrev pub netSize : ℕ
-netSize = doorsFrom + mostInTable
+netSize = suc spannedAt
 
 abbrev pub wordAt : List ℕ → ℕ → ℕ
 wordAt net i = getD net i 0
 
--- an arc's links, from the lowest byte on: its head, the arc that comes next behind it in the chain of its tail, its tail, and above these three its span. No
--- search reads the tail or the span; they are there so that the words say the table's own arcs
+-- an arc's links, from the lowest byte on: its head, the arc that comes next behind it among those of its tail, its tail, the one that comes next among those of its head,
+-- and above these its span. No search reads the tail or the span; they are there so that the words say the table's own arcs
 unfoldable pub headOf : List ℕ → ℕ → ℕ
 headOf net k = wordAt net (linksFrom + k) % 256
 
@@ -71,8 +67,11 @@ nextOf net k = wordAt net (linksFrom + k) / 256 % 256
 unfoldable pub tailOf : List ℕ → ℕ → ℕ
 tailOf net k = wordAt net (linksFrom + k) / 65536 % 256
 
+unfoldable pub nextInOf : List ℕ → ℕ → ℕ
+nextInOf net k = wordAt net (linksFrom + k) / 16777216 % 256
+
 unfoldable pub spanOf : List ℕ → ℕ → ℕ
-spanOf net k = wordAt net (linksFrom + k) / 16777216
+spanOf net k = wordAt net (linksFrom + k) / 4294967296
 
 -- the arcs that the words say: n of them, from number k on
 unfoldable pub arcsFrom : List ℕ → ℕ → ℕ → List Arc
@@ -96,19 +95,6 @@ routesIn net = ranking (meshIn net)
 abbrev pub exposureIn : List ℕ → ℕ → Exposure
 exposureIn net k = record { risks = wordAt net k; low = wordAt net (lowFrom + k); high = wordAt net (highFrom + k) }
 
--- the arc that is the door of number j, and what it is exposed to
-abbrev pub doorArc : List ℕ → ℕ → ℕ
-doorArc net j = wordAt net (doorsFrom + j)
-
-abbrev pub doorIn : List ℕ → ℕ → Exposure
-doorIn net j = ofArc (arcAt (arcsIn net) (doorArc net j))
-
--- arc k is one of the doors, of which there are so many
-pub record IsDoor (k : ℕ) (count : ℕ) (net : List ℕ) : Type 0 where
-  pub place : ℕ
-  pub inside : place < count
-  pub is : doorArc net place ≡ k
-
 -- what else holds of words that say this mesh
 pub record Chained (m : Mesh) (net : List ℕ) : Type 0 where
   pub size : length net ≡ netSize
@@ -128,10 +114,9 @@ pub record Chained (m : Mesh) (net : List ℕ) : Type 0 where
   -- to what each arc is exposed; where no arc has a span, to none
   pub exposure : (k : ℕ) → k < length (m .arcs) → exposureIn net k ≡ ofArc (arcAt (m .arcs) k)
   pub plain : wordAt net spannedAt ≡ 0 → (k : ℕ) → k < length (m .arcs) → (ofArc (arcAt (m .arcs) k) .low ≡ 0) × (ofArc (arcAt (m .arcs) k) .high ≡ 0)
-  -- each arc into the terminal is a door, and each door is an arc
-  pub few-doors : wordAt net doorCountAt ≤ mostInTable
-  pub door : (k : ℕ) → k < length (m .arcs) → arcAt (m .arcs) k .head ≡ m .terminal → IsDoor k (wordAt net doorCountAt) net
-  pub door-inside : (j : ℕ) → j < wordAt net doorCountAt → doorArc net j < length (m .arcs)
+  -- the arcs of one head, chained as well: those of the terminal are the doors
+  pub next-in : (k : ℕ) → k < length (m .arcs) → NextBy (λ (a : Arc). a .head) (m .arcs) (arcAt (m .arcs) k .head) (k + 1) (nextInOf net k)
+  pub first-door : NextBy (λ (a : Arc). a .head) (m .arcs) (m .terminal) 0 (wordAt net firstDoorAt)
 
 -- the words hang together
 abbrev pub Net : List ℕ → Type 0

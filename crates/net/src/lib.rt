@@ -6,11 +6,11 @@ ghost use lib.ListN.{length};
 ghost use Rattle.problem.specs.Table.{lastNode, mostArcMetres, mostReach};
 ghost use Rattle.problem.specs.Exposures.{ofArc};
 ghost use Rattle.problem.specs.Routes.{arcAt};
-ghost use Rattle.net.specs.Net.{firstFrom, lowerFrom, doorCountAt, spannedAt, wordAt, nextOf, arcsIn, meshIn, doorArc, Net};
+ghost use Rattle.net.specs.Net.{firstFrom, lowerFrom, firstDoorAt, spannedAt, wordAt, nextOf, nextInOf, arcsIn, meshIn, Net};
 
 // Where the words of each kind begin: as many words as a table can have arcs for the risks, the metres, the links and the two fields of the span of an arc;
-// as many as there are nodes for each field of a node; then the number of arcs, the request, the number of doors, whether there are spans, and the doors.
-// An arc's links are in one word, from the lowest byte on: its head, the next arc of its chain, its tail, and above these its span.
+// as many as there are nodes for each field of a node; then the number of arcs, the request, the first door, and whether there are spans.
+// An arc's links are in one word, from the lowest byte on: its head, the next arc of its tail, its tail, the next arc of its head, and above these its span.
 pub const METRES_FROM: u64 = problem::MOST_IN_TABLE as u64;
 
 const LINKS_FROM: u64 = METRES_FROM + METRES_FROM;
@@ -31,13 +31,11 @@ const REACH_AT: u64 = TERMINAL_AT + 1;
 
 const SOURCE_AT: u64 = REACH_AT + 1;
 
-const DOOR_COUNT_AT: u64 = SOURCE_AT + 1;
+const FIRST_DOOR_AT: u64 = SOURCE_AT + 1;
 
-const SPANNED_AT: u64 = DOOR_COUNT_AT + 1;
+const SPANNED_AT: u64 = FIRST_DOOR_AT + 1;
 
-pub const DOORS_FROM: u64 = SPANNED_AT + 1;
-
-pub const SIZE: usize = DOORS_FROM as usize + problem::MOST_IN_TABLE;
+pub const SIZE: usize = SPANNED_AT as usize + 1;
 
 // More than any length, and than any number of routes that is counted.
 pub const NO_LENGTH: u64 = 1099511627776;
@@ -157,20 +155,19 @@ pub fn source(net: &[u64]) -> u64
     word(net, SOURCE_AT)
 }
 
-// How many arcs lead into the terminal: the doors.
-pub fn door_count(net: &[u64]) -> u64
+// The first arc into the terminal, a door, and the arc that comes next behind arc k among those of its head; the number of arcs comes behind the last.
+pub fn first_door(net: &[u64]) -> u64
     requires { ⌜ Net (now net) ⌝ }
-    ensures { λ r. ⌜ r ≡ wordAt (now (net .entry)) doorCountAt ⌝ }
+    ensures { λ r. ⌜ r ≡ wordAt (now (net .entry)) firstDoorAt ⌝ }
 {
-    word(net, DOOR_COUNT_AT)
+    word(net, FIRST_DOOR_AT)
 }
 
-// The number of door j.
-pub fn door(net: &[u64], j: u64) -> u64
-    requires { ⌜ Net (now net) × (j < wordAt (now net) doorCountAt) ⌝ }
-    ensures { λ r. ⌜ (r ≡ doorArc (now (net .entry)) j) × (r < length (arcsIn (now (net .entry)))) ⌝ }
+pub fn next_in(net: &[u64], k: u64) -> u64
+    requires { ⌜ Net (now net) × (k < length (arcsIn (now net))) ⌝ }
+    ensures { λ r. ⌜ r ≡ nextInOf (now (net .entry)) k ⌝ }
 {
-    word(net, DOORS_FROM + j)
+    word(net, LINKS_FROM + k) / 16777216 % 256
 }
 
 // Whether some arc has a span: 0 where none has.

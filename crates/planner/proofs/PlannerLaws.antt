@@ -1,4 +1,4 @@
--- From the parts of a plan to what planning promises; and whether there is a route, by the source's shortest way. Assumes nothing.
+-- From the words that a call is read into to what planning promises; and whether there is a route, by the source's shortest way. Assumes nothing.
 use mathlib.Core.Path.{_≡_, refl, sym, ap, _∙_, subst}
 use mathlib.Core.Logic.{_⊎_, inl, inr}
 use mathlib.Core.Bool.{true, false, true≢false, false≢true}
@@ -11,7 +11,7 @@ use lib.Seq.{take-at}
 use Rattle.problem.specs.declared.Arc.{Arc}
 use Rattle.problem.specs.declared.Exposure.{Exposure}
 use Rattle.problem.specs.declared.Request.{Request}
-use Rattle.problem.specs.Table.{mostTableBytes, arcsOf, over, allSound}
+use Rattle.problem.specs.Table.{mostTableBytes, mostAllowance, arcsOf, over, allSound}
 use Rattle.problem.specs.Exposures.{toNothing, size}
 use Rattle.problem.specs.Routes.{arcAt, IsWay, Route, ranking}
 use Rattle.problem.specs.Pairs.{onEvery, floor}
@@ -28,7 +28,7 @@ use Rattle.octets.specs.Puts.{Puts}
 use Rattle.octets.proofs.PutLaws.{puts-taken}
 use Rattle.closed.specs.Turned.{turnedIn}
 use Rattle.closed.proofs.TurnedLaws.{turned-sound, turned-span, ranking-turned}
-use Rattle.side.specs.declared.Side.{Side}
+use Rattle.side.specs.declared.Distance.{Distance}
 use Rattle.side.specs.Side.{SideTable, reachedAt, metresAt}
 use Rattle.floor.proofs.ClearLaws.{way-free}
 use Rattle.net.specs.Net.{routesIn}
@@ -38,8 +38,9 @@ use Rattle.choose.specs.declared.Choice.{Choice}
 use Rattle.choose.specs.Choose.{Chosen}
 use Rattle.spans.specs.Marks.{NoSpan, markedTable}
 use Rattle.spans.proofs.MarkLaws.{table-length, marked-arcs}
+use Rattle.planner.specs.declared.Ready.{Ready}
 use Rattle.planner.specs.declared.Made.{Made}
-use Rattle.planner.specs.Planner.{Planned}
+use Rattle.planner.specs.Planner.{Laid, Reads, Planned}
 
 module _ {table : List ℕ} {q : Request} (checked : Checked table q) where
   abbrev routes : List Route
@@ -51,27 +52,20 @@ module _ {table : List ℕ} {q : Request} (checked : Checked table q) where
   unfolding floor
   floor-counted e f = f ∙ ap size e
 
-  routes-laid : {side : Side} {net : List ℕ} → LaidOut (meshOver (arcsOf table) q) side net → routes ≡ routesIn net
-  routes-laid l = ap ranking (sym (l .mesh-is))
-
-  pub planning : {side : Side} {net : List ℕ} → LaidOut (meshOver (arcsOf table) q) side net → 0 < length routes → {low : ℕ} → low ≡ floor routes → Planning net (q .allowance) low
-  planning l some e =
-      record { some-route = rw (routes-laid l) at some; some-allowance = checked .some-allowance; few = checked .allowance-range; floor-is = rw (routes-laid l) at e }
-
-  pub made-planned : {side : Side} {net : List ℕ} → LaidOut (meshOver (arcsOf table) q) side net → 0 < length routes → {low : ℕ} → low ≡ floor routes
-      → {c : Choice} → Chosen (routesIn net) (q .allowance) c → Planned routes (q .allowance) (record { found = true; floor = low; choice = c })
-  made-planned l some e h =
-      record { none = λ f. absurd (true≢false f); some = λ f. record { some-route = some; floor-is = e; chosen = rw (routes-laid l) h } }
+  pub read-some : {side : List Distance} {net : List ℕ} → LaidOut (meshOver (arcsOf table) q) side net → 0 < length routes → {low : ℕ} → low ≡ floor routes
+      → Reads routes net (record { found = true; floor = low })
+  read-some l some e =
+      record { none = λ f. absurd (true≢false f); some = λ f. record { words = l .words; routes-are = ap ranking (l .mesh-is); some-route = some; floor-is = e } }
 
   -- ---- whether there is a route
 
-  module _ {side : Side} (s : SideTable (arcsOf table) (q .terminal) toNothing side) where
+  module _ {side : List Distance} (s : SideTable (arcsOf table) (q .terminal) toNothing side) where
     -- none where the source is not reached, or only over a longer way
     abbrev Far : Type 0
     Far = (reachedAt side (q .source) ≡ false) ⊎ (q .reach < metresAt side (q .source))
 
-    pub none-planned : {m : Made} → m .found ≡ false → Far → Planned routes (q .allowance) m
-    none-planned f far = record { none = λ g. go routes (λ r x. out (ranking-out (meshOver (arcsOf table) q) x) far); some = λ g. absurd (false≢true (sym f ∙ g)) }
+    pub read-none : {r : Ready} {net : List ℕ} → r .found ≡ false → Far → Reads routes net r
+    read-none f far = record { none = λ g. go routes (λ r x. out (ranking-out (meshOver (arcsOf table) q) x) far); some = λ g. absurd (false≢true (sym f ∙ g)) }
       where
         out : {r : Route} → Listed (meshOver (arcsOf table) q) r → Far → ⊥
         out o (inl e) = s .none (q .source) e (o .list) (way-free (arcsOf table) (q .terminal) (o .route .path .way))
@@ -92,15 +86,36 @@ module _ {table : List ℕ} {q : Request} (checked : Checked table q) where
         go (List·Memᴰ·head e) = omega arith
         go (List·Memᴰ·tail x) = omega arith
 
+-- ---- a net planned over
+
+pub laid-planning : {routes : List Route} {net : List ℕ} {allowance low : ℕ} → Laid routes net low → 0 < allowance → allowance ≤ mostAllowance → Planning net allowance low
+laid-planning l some few = record { some-route = rw (← l .routes-are) at (l .some-route); some-allowance = some; few = few; floor-is = rw (← l .routes-are) at (l .floor-is) }
+
+-- the words' own routes are those that they say
+pub laid-own : {routes : List Route} {net : List ℕ} {low : ℕ} → Laid routes net low → Laid (routesIn net) net low
+laid-own {net = net} {low} l = subst (λ (routes : List Route). Laid routes net low) (sym (l .routes-are)) l
+
+pub made-planned : {routes : List Route} {net : List ℕ} {allowance low : ℕ} → Laid routes net low → {c : Choice} → Chosen routes allowance c
+    → Planned routes allowance (record { found = true; floor = low; choice = c })
+made-planned l h = record { none = λ f. absurd (true≢false f); some = λ f. record { some-route = l .some-route; floor-is = l .floor-is; chosen = h } }
+
+module _ {routes : List Route} {net : List ℕ} {r : Ready} (read : Reads routes net r) {allowance : ℕ} {m : Made} where
+  -- nothing is found where there is no route
+  pub none-planned : r .found ≡ false → m .found ≡ false → Planned routes allowance m
+  none-planned e f = record { none = λ g. read .none e; some = λ g. absurd (false≢true (sym f ∙ g)) }
+
+  pub some-planned : r .found ≡ true → Planned (routesIn net) allowance m → Planned routes allowance m
+  some-planned e p = subst (λ (l : List Route). Planned l allowance m) (read .some e .routes-are) p
+
 -- ---- the arcs that a call is planned over
 
--- the same arcs, the same plan
-planned-over : (q : Request) {arcs more : List Arc} {m : Made} → arcs ≡ more → Planned (ranking (meshOver arcs q)) (q .allowance) m → Planned (ranking (meshOver more q)) (q .allowance) m
-planned-over q {m = m} e p = subst (λ (l : List Arc). Planned (ranking (meshOver l q)) (q .allowance) m) e p
+-- the same arcs, the same routes
+reads-over : (q : Request) {arcs more : List Arc} {net : List ℕ} {r : Ready} → arcs ≡ more → Reads (ranking (meshOver arcs q)) net r → Reads (ranking (meshOver more q)) net r
+reads-over q {net = net} {r} e p = subst (λ (l : List Arc). Reads (ranking (meshOver l q)) net r) e p
 
 -- where no arc has a span, they are those of the table
-pub planned-unspanned : (table : List ℕ) (q : Request) {m : Made} → NoSpan (arcsOf table) → Planned (ranking (meshOver (arcsOf table) q)) (q .allowance) m → Planned (ranking (meshOver (markedArcs table) q)) (q .allowance) m
-planned-unspanned table q none p = planned-over q (sym (unspanned-same (arcsOf table) none)) p
+pub reads-unspanned : (table : List ℕ) (q : Request) {net : List ℕ} {r : Ready} → NoSpan (arcsOf table) → Reads (ranking (meshOver (arcsOf table) q)) net r → Reads (ranking (meshOver (markedArcs table) q)) net r
+reads-unspanned table q none p = reads-over q (sym (unspanned-same (arcsOf table) none)) p
 
 -- else those of the table written anew, which passes the checks as well
 module _ {table : List ℕ} {q : Request} (checked : Checked table q) where
@@ -124,8 +139,8 @@ module _ {table : List ℕ} {q : Request} (checked : Checked table q) where
   pub checked-marked : Checked (markedTable table) q
   checked-marked = checked-as marked-size (ap allSound (marked-arcs table (checked .few-bytes)) ∙ marked-sound (arcsOf table) (checked .sound))
 
-  pub planned-marked : {m : Made} → Planned (ranking (meshOver (arcsOf (markedTable table)) q)) (q .allowance) m → Planned (ranking (meshOver (markedArcs table) q)) (q .allowance) m
-  planned-marked p = planned-over q (marked-arcs table (checked .few-bytes)) p
+  pub reads-marked : {net : List ℕ} {r : Ready} → Reads (ranking (meshOver (arcsOf (markedTable table)) q)) net r → Reads (ranking (meshOver (markedArcs table) q)) net r
+  reads-marked p = reads-over q (marked-arcs table (checked .few-bytes)) p
 
   -- its bytes, as the part of the buffer that was written
   pub part-marked : (buffer : List ℕ) → take (length table - 0) (drop 0 (over (markedTable table) buffer)) ≡ markedTable table
@@ -163,12 +178,12 @@ module _ {table : List ℕ} {q : Request} (checked : Checked table q) (closed : 
       ap (λ (arcs : List Arc). arcAt arcs k .span) says ∙ turned-span closed (q .terminal) (q .source) (markedArcs table) k ∙ ap (λ (a : Arc). a .span) (marked-at (arcsOf table) k)
       ∙ ap (mark (arcsOf table)) (none k (omega (arith, h, arcs-length part, arcs-length table, size))) ∙ mark-unknown (arcsOf table)
 
-  pub planned-turned : {m : Made} → Planned (ranking (meshOver (arcsOf part) q)) (q .allowance) m → Planned (ranking (meshOver (shutIn closed (markedArcs table)) q)) (q .allowance) m
-  planned-turned {m} p =
-      subst (λ (routes : List Route). Planned routes (q .allowance) m)
+  pub reads-turned : {net : List ℕ} {r : Ready} → Reads (ranking (meshOver (arcsOf part) q)) net r → Reads (ranking (meshOver (shutIn closed (markedArcs table)) q)) net r
+  reads-turned {net} {r} p =
+      subst (λ (routes : List Route). Reads routes net r)
       (ap (λ (arcs : List Arc). ranking (meshOver arcs q)) says ∙ ranking-turned closed (q .source) (markedArcs table) q (sound-heads (markedArcs table) marked-is-sound) (checked .source-node)) p
 
 -- where nothing is closed they stay as they are
-pub planned-open : (table : List ℕ) (q : Request) {closed : ℕ} {m : Made} → closed ≡ 0 → Planned (ranking (meshOver (markedArcs table) q)) (q .allowance) m
-    → Planned (ranking (meshOver (shutIn closed (markedArcs table)) q)) (q .allowance) m
-planned-open table q none p = planned-over q (sym (ap (λ (set : ℕ). shutIn set (markedArcs table)) none ∙ closed-none shut 0 (markedArcs table))) p
+pub reads-open : (table : List ℕ) (q : Request) {closed : ℕ} {net : List ℕ} {r : Ready} → closed ≡ 0 → Reads (ranking (meshOver (markedArcs table) q)) net r
+    → Reads (ranking (meshOver (shutIn closed (markedArcs table)) q)) net r
+reads-open table q none p = reads-over q (sym (ap (λ (set : ℕ). shutIn set (markedArcs table)) none ∙ closed-none shut 0 (markedArcs table))) p

@@ -2,21 +2,19 @@
 use choose::Choice;
 use closed::Closed;
 use problem::Request;
-use side::Side;
 ghost use mathlib.Core.Path.{_≡_};
 ghost use mathlib.Core.Bool.{false};
 ghost use Prim.Native.Nat.{_%_, _≤_, _<_};
 ghost use lib.ListN.{length, take};
-ghost use Rattle.problem.specs.Table.{mostTableBytes, arcsOf};
+ghost use Rattle.problem.specs.Table.{mostTableBytes, mostAllowance, arcsOf};
 ghost use Rattle.problem.specs.Spans.{markedArcs};
 ghost use Rattle.problem.specs.Closed.{shutIn};
-ghost use Rattle.problem.specs.Exposures.{toNothing};
 ghost use Rattle.problem.specs.Routes.{ranking};
 ghost use Rattle.problem.specs.Reply.{meshOver, Checked};
-ghost use Rattle.side.specs.Side.{SideTable};
 ghost use Rattle.closed.specs.Turned.{setOf};
 ghost use Rattle.spans.specs.Marks.{NoSpan};
-ghost use Rattle.planner.specs.Planner.{Planned};
+ghost use Rattle.net.specs.Net.{netSize, routesIn};
+ghost use Rattle.planner.specs.Planner.{Laid, Reads, Planned};
 
 // What planning makes of a call: whether there is a route, the floor, and what else a reply says.
 pub struct Made {
@@ -40,56 +38,56 @@ fn nothing() -> Made
     }
 }
 
-// Plans where there is a route. `side` is the side table with nothing banned, `spanned` is 0 only where no arc has a span.
-fn make(table: &[u8], q: Request, spanned: u64, side: Side) -> Made
-    requires { ⌜ Checked (now table) q × (spanned ≡ 0 → NoSpan (arcsOf (now table))) ⌝ }
-    requires { ⌜ SideTable (arcsOf (now table)) (q .terminal) toNothing side ⌝ }
-    requires { ⌜ 0 < length (ranking (meshOver (arcsOf (now table)) q)) ⌝ }
-    ensures { λ r. ⌜ Planned (ranking (meshOver (arcsOf (now (table .entry))) q)) (q .allowance) r ⌝ }
+// A call that is read into the words of a net: whether there is a route, and the floor. What reading takes, copies of the table among it, is off the stack
+// when the search begins.
+struct Ready {
+    found: bool,
+    floor: u8,
+}
+
+fn no_route() -> Ready
+    ensures { λ r. ⌜ r .found ≡ false ⌝ }
 {
-    let allowance = q.allowance as u64;
-    let common = floor::common_exposure(table, q, side);
-    let floor = exposure::size(common);
-    // The first fill is never read; a value whose bytes differ makes it a few vector stores in a loop, where 0 would be a call of memset.
-    let mut net = [layout::FAR; net::SIZE];
-    layout::lay_out(&mut net, table, q, side, spanned);
-    let mut store = [0; cores::OWN_WORDS];
-    let run = plan::plan(&net, &mut store, allowance, floor);
-    let choice = choose::choose(&net, &mut store, allowance, run);
-    Made {
-        found: true,
-        floor: floor as u8,
-        choice: choice,
+    Ready {
+        found: false,
+        floor: 0,
     }
 }
 
-// Plans over the arcs of a table as they are read; `spanned` is 0 only where none has a span. There is a route exactly where the shortest way fits the reach.
-fn plan_read(table: &[u8], q: Request, spanned: u64) -> Made
-    requires { ⌜ Checked (now table) q × (spanned ≡ 0 → NoSpan (arcsOf (now table))) ⌝ }
-    ensures { λ r. ⌜ Planned (ranking (meshOver (arcsOf (now (table .entry))) q)) (q .allowance) r ⌝ }
+// Reads the arcs of a table as they are; `spanned` is 0 only where none has a span. There is a route exactly where the shortest way fits the reach.
+fn read_table(net: &mut [u64; net::SIZE], table: &[u8], q: Request, spanned: u64) -> Ready
+    requires { ⌜ Checked (now table) q × (spanned ≡ 0 → NoSpan (arcsOf (now table))) × (length (now net) ≡ netSize) ⌝ }
+    ensures { λ r. ⌜ Reads (ranking (meshOver (arcsOf (now (table .entry))) q)) (now (net .exit)) r ⌝ }
 {
-    let side = side::side_table(table, q.terminal as u8, exposure::nothing());
-    let entry = side.entries[q.source as usize];
+    let into = chain::chained(table, chain::End::Head);
+    let side = side::side_table(table, &into, q.terminal as u8, exposure::nothing());
+    let entry = side[q.source as usize];
     if !entry.reached {
-        return nothing();
+        return no_route();
     }
     if q.reach < entry.metres {
-        return nothing();
+        return no_route();
     }
-    make(table, q, spanned, side)
+    let common = floor::common_exposure(table, &into, q, side);
+    let floor = exposure::size(common);
+    layout::lay_out(net, table, &into, q, side, spanned);
+    Ready {
+        found: true,
+        floor: floor as u8,
+    }
 }
 
-// Plans a call whose checks have passed. A table without spans is planned over as it is, any other with its spans known by their first arcs.
-pub fn plan_checked(table: &[u8], q: Request) -> Made
-    requires { ⌜ Checked (now table) q ⌝ }
-    ensures { λ r. ⌜ Planned (ranking (meshOver (markedArcs (now (table .entry))) q)) (q .allowance) r ⌝ }
+// Reads a call whose checks have passed. A table without spans is read as it is, any other with its spans known by their first arcs.
+fn read_checked(net: &mut [u64; net::SIZE], table: &[u8], q: Request) -> Ready
+    requires { ⌜ Checked (now table) q × (length (now net) ≡ netSize) ⌝ }
+    ensures { λ r. ⌜ Reads (ranking (meshOver (markedArcs (now (table .entry))) q)) (now (net .exit)) r ⌝ }
 {
     if !spans::any(table) {
-        return plan_read(table, q, 0);
+        return read_table(net, table, q, 0);
     }
     let mut marked = [0; problem::MOST_TABLE_BYTES];
     spans::put_all(&mut marked, table);
-    plan_read(&marked[0..table.len()], q, 1)
+    read_table(net, &marked[0..table.len()], q, 1)
 }
 
 // Writes the table so, into a longer buffer, and says whether any arc has a span: 0 only where none has.
@@ -106,16 +104,59 @@ fn write_marked(out: &mut [u8], table: &[u8]) -> u64
     0
 }
 
-// Plans around the arcs that are closed. A set that closes none leaves the table as it is; else it is written anew, with the closed arcs turned round, where no route goes over them.
-pub fn plan_around(table: &[u8], set: Closed, q: Request) -> Made
-    requires { ⌜ Checked (now table) q ⌝ }
-    ensures { λ r. ⌜ Planned (ranking (meshOver (shutIn (setOf set) (markedArcs (now (table .entry)))) q)) (q .allowance) r ⌝ }
+// Reads a call around the arcs that are closed. A set that closes none leaves the table as it is; else it is written anew, with the closed arcs turned round, where no route goes over them.
+fn read_around(net: &mut [u64; net::SIZE], table: &[u8], set: Closed, q: Request) -> Ready
+    requires { ⌜ Checked (now table) q × (length (now net) ≡ netSize) ⌝ }
+    ensures { λ r. ⌜ Reads (ranking (meshOver (shutIn (setOf set) (markedArcs (now (table .entry)))) q)) (now (net .exit)) r ⌝ }
 {
     if !closed::any(set) {
-        return plan_checked(table, q);
+        return read_checked(net, table, q);
     }
     let mut around = [0; problem::MOST_TABLE_BYTES];
     let spanned = write_marked(&mut around, table);
     closed::turn_all(&mut around[0..table.len()], set, q);
-    plan_read(&around[0..table.len()], q, spanned)
+    read_table(net, &around[0..table.len()], q, spanned)
+}
+
+// Plans over a net that says some route, of which `floor` is the floor.
+fn plan_net(net: &[u64; net::SIZE], allowance: u32, floor: u8) -> Made
+    requires { ⌜ Laid (routesIn (now net)) (now net) floor × (0 < allowance) × (allowance ≤ mostAllowance) ⌝ }
+    ensures { λ r. ⌜ Planned (routesIn (now (net .entry))) allowance r ⌝ }
+{
+    let most = allowance as u64;
+    let mut store = [0; cores::OWN_WORDS];
+    let run = plan::plan(net, &mut store, most, floor as u64);
+    let choice = choose::choose(net, &mut store, most, run);
+    Made {
+        found: true,
+        floor: floor,
+        choice: choice,
+    }
+}
+
+// Plans a call whose checks have passed.
+pub fn plan_checked(table: &[u8], q: Request) -> Made
+    requires { ⌜ Checked (now table) q ⌝ }
+    ensures { λ r. ⌜ Planned (ranking (meshOver (markedArcs (now (table .entry))) q)) (q .allowance) r ⌝ }
+{
+    // The first fill is never read; a value whose bytes differ makes it a few vector stores in a loop, where 0 would be a call of memset.
+    let mut net = [layout::FAR; net::SIZE];
+    let ready = read_checked(&mut net, table, q);
+    if !ready.found {
+        return nothing();
+    }
+    plan_net(&net, q.allowance, ready.floor)
+}
+
+// Plans one around the arcs that are closed.
+pub fn plan_around(table: &[u8], set: Closed, q: Request) -> Made
+    requires { ⌜ Checked (now table) q ⌝ }
+    ensures { λ r. ⌜ Planned (ranking (meshOver (shutIn (setOf set) (markedArcs (now (table .entry)))) q)) (q .allowance) r ⌝ }
+{
+    let mut net = [layout::FAR; net::SIZE];
+    let ready = read_around(&mut net, table, set, q);
+    if !ready.found {
+        return nothing();
+    }
+    plan_net(&net, q.allowance, ready.floor)
 }

@@ -22,14 +22,14 @@ use Rattle.problem.specs.Exposures.{fieldOf, byField, exposed, toNothing
 
 -- ---- fields, and hazards counted over them in turn
 
-field-by : (f : ℕ → ℕ) (i : ℕ) → i < 3 → fieldOf (byField f) i ≡ f i
+pub field-by : (f : ℕ → ℕ) (i : ℕ) → i < 3 → fieldOf (byField f) i ≡ f i
 unfolding fieldOf
 field-by f zero h = refl
 field-by f (suc zero) h = refl
 field-by f (suc (suc zero)) h = refl
 field-by f (suc (suc (suc i))) h = absurd (omega arith)
 
-exposed-by : (f : ℕ → ℕ) (r : ℕ) → exposed (byField f) r ≡ bit (f (r % 3)) (r / 3)
+pub exposed-by : (f : ℕ → ℕ) (r : ℕ) → exposed (byField f) r ≡ bit (f (r % 3)) (r / 3)
 unfolding exposed
 exposed-by f r = ap (λ (x : ℕ). bit x (r / 3)) (field-by f (r % 3) (omega arith))
 

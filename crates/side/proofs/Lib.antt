@@ -1,4 +1,12 @@
 pub mod StoreLaws
 pub mod FreeLaws
 pub mod RelaxLaws
-pub mod TurnLaws
+pub mod SearchLaws
+pub mod WalkLaws
+pub mod FinishLaws
+pub mod HandedLaws
+pub mod TailsLaws
+pub mod NearestLaws
+pub mod FairLaws
+pub mod MovedLaws
+pub mod OutwardLaws

@@ -46,16 +46,16 @@ pub fn door(net: &[u64], main: Exposure) -> u64
     requires { ⌜ Net (now net) ⌝ }
     ensures { λ r. ⌜ EveryDoor (meshIn (now (net .entry))) main r ⌝ }
 {
-    let n = net::door_count(net);
+    let n = net::arc_count(net);
     let mut least = MOST_SHARED;
-    let mut j = 0;
-    while j < n {
-        let shared = shared_with(net, main, net::door(net, j));
+    let mut k = net::first_door(net);
+    while k < n {
+        let shared = shared_with(net, main, k);
         if shared == 0 {
             return 0;
         }
         least = laws::smaller(least, shared);
-        j += 1;
+        k = net::next_in(net, k);
     }
     least
 }

@@ -13,25 +13,26 @@ use Rattle.floor.proofs.common_exposure.Statement.{statement}
 use Rattle.floor.proofs.common_exposure.Tie as tie
 
 abbrev Inv-loop : tie.InvT-loop
-Inv-loop table q left₀ r₀ left r = (r ≤ hazards) × Left (meshOver (arcsOf table) q) left r
+Inv-loop table into q left₀ r₀ left r = (r ≤ hazards) × Left (meshOver (arcsOf table) q) left r
 
 abbrev μ-loop : tie.MeasureT-loop
-μ-loop table q left₀ r₀ left r = hazards - r
+μ-loop table into q left₀ r₀ left r = hazards - r
 
 -- what clearing leaves
-begun : (c : tie.After-narrow Inv-loop μ-loop) → let start = c .before .before .before .before in Left (meshOver (arcsOf (start .args .table .now)) (start .args .q)) (c .narrow .result) 0
-begun c = left-start _ _ _ (c .before .all .ensures) (rw (c .narrow .ensures) (narrowed-says _ _ _ (c .before .before .clear .ensures .clearing .avoids _)))
+begun : (c : tie.After-narrow Inv-loop μ-loop) → let start = c .before .before .before .before .before in Left (meshOver (arcsOf (start .args .table .now)) (start .args .q)) (c .narrow .result) 0
+begun c = left-start _ _ _ (c .before .all .ensures) (rw (c .narrow .ensures) (narrowed-says _ _ _ _ (c .before .before .clear .ensures .clearing)))
 
 sure : tie.Need-returns Inv-loop μ-loop
 sure c =
     let narrowing = c .before in
-    let start = narrowing .before .before .before .before in
-    left-end _ (sound-heads _ (start .pre .0 .sound)) (start .pre .0 .source-node) _ hazards refl
+    let start = narrowing .before .before .before .before .before in
+    let checked = start .pre .0 .0 in
+    left-end _ (sound-heads _ (checked .sound)) (checked .source-node) _ hazards refl
     (left-sure _ _ (begun narrowing)
     (rw (narrowing .narrow .ensures) (narrowed-sure _ _ _ _ (start .pre .1) (rw (c .if1 .taken) at (narrowing .before .before .clear .ensures)))))
 
 ask-requires : tie.Need-ask-requires Inv-loop μ-loop
-ask-requires c κs = (omega arith, c .before .before .before .before .before .before .before .pre .0)
+ask-requires c κs = (omega arith, c .before .before .before .before .before .before .before .before .pre .0)
 
 loop-again : tie.Need-loop-again Inv-loop μ-loop
 loop-again c = (omega arith, left-on _ _ _ _ (c .before .before .loop .inv .1) (c .ask .ensures))
@@ -39,8 +40,8 @@ loop-again c = (omega arith, left-on _ _ _ _ (c .before .before .loop .inv .1) (
 returns : tie.Need-returns-2 Inv-loop μ-loop
 returns c =
     let l = c .before in
-    let start = l .before .before .before .before .before .before in
-    left-end _ (sound-heads _ (start .pre .0 .sound)) (start .pre .0 .source-node) _ (l .loop .r) (omega arith) (l .loop .inv .1)
+    let checked = l .before .before .before .before .before .before .before .pre .0 .0 in
+    left-end _ (sound-heads _ (checked .sound)) (checked .source-node) _ (l .loop .r) (omega arith) (l .loop .inv .1)
 
 pub common-exposure-spec : {M : Type 1} → statement M
 common-exposure-spec =
@@ -48,9 +49,9 @@ common-exposure-spec =
     (tie.spec
     Inv-loop
     μ-loop
-    (λ c κs. c .before .pre)
+    (λ c κs. (c .before .before .pre .0 .0, c .before .before .pre .1))
     (λ c κs. search needs)
-    (λ c κs. c .before .before .before .pre .0 .source-node)
+    (λ c κs. c .before .before .before .before .pre .0 .0 .source-node)
     sure
     (λ c. (omega arith, begun (c .before)))
     ask-requires

@@ -1,22 +1,19 @@
--- `floor::narrow` meets its contract: each return is the case that the tests before it lead to. Assumes nothing.
-use mathlib.Core.Path.{_∙_}
+-- `floor::narrow` meets its contract: each return is the case that the test before it leads to. Assumes nothing.
+use mathlib.Core.Path.{sym, _∙_}
 use native.Mathlib.Omega.{arith}
 use borrow.Author.Needs.{needs}
 use borrow.Author.Tests.{not-true, not-false}
 use Rattle.problem.specs.Exposures.{toNothing}
-use Rattle.floor.proofs.AskLaws.{narrowed-unreached, narrowed-far, narrowed-near}
+use Rattle.floor.proofs.AskLaws.{narrowed-not, narrowed-near}
 use Rattle.floor.proofs.narrow.Statement.{statement}
 use Rattle.floor.proofs.narrow.Tie as tie
 
-unreached : tie.Need-returns
-unreached c = narrowed-unreached _ _ _ _ (not-true _ (c .if1 .taken))
+far : tie.Need-returns
+far c = narrowed-not _ _ _ _ (sym (c .before .is-near .ensures) ∙ not-true _ (c .if1 .taken))
 
-far : tie.Need-returns-2
-far c = narrowed-far _ _ _ _ (not-false _ (c .before .before .before .if1 .left)) (c .if2 .taken)
-
-near : tie.Need-returns-3
+near : tie.Need-returns-2
 unfolding toNothing
-near c = c .common .ensures ∙ narrowed-near _ _ _ _ (not-false _ (c .before .before .before .before .before .if1 .left)) (c .before .before .if2 .left)
+near c = c .common .ensures ∙ narrowed-near _ _ _ _ (sym (c .before .before .before .is-near .ensures) ∙ not-false _ (c .before .before .if1 .left))
 
 pub narrow-spec : {M : Type 1} → statement M
 narrow-spec =
@@ -25,7 +22,7 @@ narrow-spec =
     (λ c. omega arith)
     (λ c. omega arith)
     (λ c. omega arith)
-    unreached
+    (λ c κs. search needs)
     far
     (λ c. omega arith)
     (λ c. omega arith)

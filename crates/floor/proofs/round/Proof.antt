@@ -10,8 +10,7 @@ use borrow.Author.Tests.{not-false}
 use Rattle.problem.specs.Table.{arcsOf, SoundArc}
 use Rattle.problem.specs.Exposures.{toNothing}
 use Rattle.problem.proofs.TableLaws.{arcs-length, arcs-inside, sound-at}
-use Rattle.side.specs.Side.{exposureAt}
-use Rattle.floor.specs.Clearing.{Rounded}
+use Rattle.floor.specs.Clearing.{exposureAt, Rounded}
 use Rattle.floor.proofs.ClearLaws.{exposureOver, nothing-over, clearedBy, rounded-start, rounded-idle, rounded-unreached, rounded-cut, rounded-clears}
 use Rattle.floor.proofs.round.Statement.{statement}
 use Rattle.floor.proofs.round.Tie as tie

@@ -1,70 +1,21 @@
--- `planner::plan_around` meets its contract: the routes over the arcs that are read, closed ones turned round, are those over open arcs. Assumes nothing.
-use mathlib.Core.Path.{_≡_, sym, ap, _∙_}
-use mathlib.Core.List.{List, _++_}
-use Prim.Native.Nat.{ℕ, _-_, _≤_}
+-- `planner::plan_around` meets its contract: what is planned over the words is planned over the arcs that were read into them. Assumes nothing.
 use borrow.Author.Needs.{needs}
-use borrow.Author.Tests.{not-true, not-false, eqb-true}
-use native.Mathlib.Omega.{arith}
-use lib.ListN.{length, take, length-take, length-append}
-use lib.Seq.{take-at}
-use Rattle.problem.specs.Table.{arcsOf}
-use Rattle.problem.specs.Spans.{markedArcs}
-use Rattle.closed.specs.Turned.{setOf, turnedIn}
-use Rattle.planner.proofs.PlannerLaws.{checked-turned, unspanned-turned, planned-turned, planned-open}
+use borrow.Author.Tests.{not-true, not-false}
+use Rattle.planner.proofs.PlannerLaws.{laid-own, none-planned, some-planned}
 use Rattle.planner.proofs.plan_around.Statement.{statement}
 use Rattle.planner.proofs.plan_around.Tie as tie
 
-nothing-closed : tie.Need-returns
-nothing-closed c =
-    let s = c .before .before .before .before in
-    planned-open (s .args .table .now) (s .args .q) (eqb-true _ 0 (not-false _ (sym (c .before .before .any .ensures) ∙ not-true _ (c .before .if1 .taken)))) (c .plan-checked .ensures)
+none : tie.Need-returns
+none c = none-planned (c .before .before .before .read-around .ensures) (not-true _ (c .before .if1 .taken)) (c .nothing .ensures)
 
-turn-all-requires : tie.Need-turn-all-requires
-turn-all-requires c κs =
-    let s = c .before .before .before .before .before .before .before in
-    (rw length-take (omega (arith, s .pre .few-bytes)), s .pre .source-node, s .pre .terminal-node)
+plan-net-requires : tie.Need-plan-net-requires
+plan-net-requires c κs =
+    let read = c .before .before .before in
+    let s = read .before .before .before in
+    (laid-own (read .read-around .ensures .some (not-false _ (c .before .if1 .left))), s .pre .some-allowance, s .pre .allowance-range)
 
--- where the call began, of its place behind turning
-abbrev start : tie.After-turn-all → tie.Start
-start c = c .before .before .before .before .before .before .before .before
-
--- the part of the buffer that was turned: its length, and the arcs that it says
-module _ (c : tie.After-turn-all) where
-  abbrev table : List ℕ
-  table = start c .args .table .now
-
-  size : length (c .turn-all .last .0) ≡ length table
-  size = c .turn-all .kept .0 ∙ rw length-take (omega (arith, c .before .before .before .write-marked .kept .0, start c .pre .few-bytes))
-
-  says : arcsOf (c .turn-all .last .0) ≡ turnedIn (setOf (start c .args .set)) (start c .args .q .terminal) (start c .args .q .source) (markedArcs table)
-  says =
-      let all : length table - 0 ≡ length table = omega arith in
-      let wrote = c .before .before .before .write-marked in
-      c .turn-all .ensures ∙ ap (turnedIn _ _ _) (ap (λ (n : ℕ). arcsOf (take n (wrote .last .0))) all ∙ wrote .ensures .0)
-
-  read : (behind : List ℕ) → take (length table - 0) (c .turn-all .last .0 ++ behind) ≡ c .turn-all .last .0
-  read behind = let all : length table - 0 ≡ length (c .turn-all .last .0) = omega (arith, size) in take-at (c .turn-all .last .0) behind (length table - 0) (sym all)
-
-part-end : tie.Need-part-around-end
-part-end c = omega (arith, c .before .write-marked .kept .0, c .before .before .before .before .before .before .pre .few-bytes)
-
-part-end-2 : tie.Need-part-plan-read-end
-part-end-2 c = begins (c .before .before .turn-all .last .0) _ (size (c .before .before))
-  where
-    begins : {n : ℕ} (l r : List ℕ) → length l ≡ n → n ≤ length (l ++ r)
-    begins l r e = rw length-append (omega (arith, e))
-
-plan-read-requires : tie.Need-plan-read-requires
-plan-read-requires c κs =
-    let turned = c .before .before .before in
-    let s = start turned in
-    rw (read turned) (checked-turned (s .pre) _ _ (size turned) (says turned), λ e. unspanned-turned (s .pre) _ _ (size turned) (says turned) (turned .before .before .before .write-marked .ensures .1 e))
-
-around : tie.Need-returns-2
-around c =
-    let turned = c .before .before .before .before in
-    let s = start turned in
-    planned-turned (s .pre) _ _ (size turned) (says turned) (rw (read turned) at (c .plan-read .ensures))
+returns : tie.Need-returns-2
+returns c = some-planned (c .before .before .before .before .read-around .ensures) (not-false _ (c .before .before .if1 .left)) (c .plan-net .ensures)
 
 pub plan-around-spec : {M : Type 1} → statement M
 plan-around-spec =
@@ -72,15 +23,6 @@ plan-around-spec =
     (tie.spec
     (λ c κs. search needs)
     (λ c κs. search needs)
-    nothing-closed
-    (λ c. search needs)
-    (λ c κs. let s = c .before .before .before .before in (s .pre .few-bytes, s .pre .few-bytes, s .pre .whole-arcs))
-    (λ c. search needs)
-    (λ c. search needs)
-    part-end
-    turn-all-requires
-    (λ c. search needs)
-    (λ c. search needs)
-    part-end-2
-    plan-read-requires
-    around)
+    none
+    plan-net-requires
+    returns)
