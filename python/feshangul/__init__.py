@@ -13,7 +13,7 @@ faulty arcs out of a mesh, and returns a Mended, or a MendRefusal; `mend_table` 
 library alone is needed.
 """
 
-__version__ = "0.7.0"
+__version__ = "0.8.0"
 
 from pathlib import Path
 
