@@ -1,25 +1,29 @@
--- Clearing: an arc that clears a risk keeps what clearing says of ways, and where no arc clears one more and the reach has kept none from it, what is
+-- Clearing: an arc that clears a risk keeps what clearing says of ways, and where no arc is due and the reach has kept none from clearing, what is
 -- left lies on every way: along it, what a node is exposed to, the arc is or the next node. Assumes nothing.
 use mathlib.Core.Path.{_≡_, refl, sym, ap, _∙_}
+use mathlib.Core.Logic.{_⊎_, inl, inr, ⊎-elim}
 use mathlib.Core.Bool.{Bool, true, false, false≢true}
 use mathlib.Core.List.{List, [], _∷_}
-use Prim.Native.Nat.{ℕ, _+_, _≤_, _<_, min, max}
+use Prim.Native.Nat.{ℕ, _+_, _-_, _≤_, _<_, _^_, min, max}
 use native.Mathlib.Decide.{ℕ-discrete, decLt}
-use native.Mathlib.Nat.{not-suc-le-zero}
 use native.Mathlib.Omega.{arith}
 use lib.ListN.{length, getD, set, replicate, length-set, length-replicate, getD-replicate, List·getD-eq-default}
 use lib.Seq.{getD-set-same, getD-set-other}
-use borrow.Author.Count.{below-more}
-use Rattle.problem.specs.Table.{lastNode, nodes, hazards, SoundArc}
+use lib.Bits.{bitAnd, and-le-l}
+use Rattle.laws.specs.Sets.{bit, with, Lowest}
+use Rattle.laws.proofs.SetLaws.{bit-empty, bit-with-same, bit-with-other, bits-below, bit-inside, bit-but-lowest}
+use Rattle.problem.specs.Table.{lastNode, nodes, hazards, allSound, SoundArc}
 use Rattle.problem.specs.declared.Arc.{Arc}
 use Rattle.problem.specs.declared.Exposure.{Exposure}
 use Rattle.problem.specs.Exposures.{exposed, toNothing, toAll, ofArc, joined, common}
 use Rattle.problem.specs.Routes.{Mesh, arcAt, metresOf, exposureOf, Way, FreeWay}
+use Rattle.problem.proofs.TableLaws.{sound-at}
 use Rattle.problem.proofs.ExposureLaws.{exposed-le-one, exposed-nothing, exposed-all, exposed-joined, exposed-common, exposure-ext, disjoint-nothing}
+use Rattle.chain.specs.Chain.{NextBy}
 use Rattle.side.specs.declared.Distance.{Distance}
 use Rattle.side.specs.Side.{unreached, entryAt, reachedAt, metresAt, SideTable}
 use Rattle.floor.specs.declared.Ways.{Ways}
-use Rattle.floor.specs.Clearing.{exposureAt, startOf, Avoids, Clearing, Finished, Settled, Rounded}
+use Rattle.floor.specs.Clearing.{exposureAt, startOf, Avoids, Clearing, Finished}
 
 -- ---- ways that avoid a risk
 
@@ -41,7 +45,7 @@ module _ (arcs : List Arc) (terminal : ℕ) where
   unfolding metresOf exposureOf
   avoids-there b n e = record { list = []; way = Way.there e; free = exposed-nothing b; short = omega arith }
 
--- ---- before the first round
+-- ---- before the first arc
 
 module _ (arcs : List Arc) (terminal reach : ℕ) (plain : List Distance) (size : length plain ≡ nodes) (node : terminal ≤ lastNode) where
   abbrev first : List Exposure
@@ -73,7 +77,7 @@ module _ (arcs : List Arc) (terminal reach : ℕ) (plain : List Distance) (size 
     terminal-clear = getD-set-same (replicate nodes toAll) terminal toNothing toNothing (omega (arith, length-replicate nodes toAll));
   }
 
--- ---- an arc of a round
+-- ---- one arc
 
 -- what the arc's tail is exposed to, less what the arc and ways from its head are free of
 abbrev pub exposureOver : Ways → Arc → Exposure
@@ -81,10 +85,6 @@ exposureOver s a = common (exposureAt s (a .tail)) (joined (ofArc a) (exposureAt
 
 nothing-common : (a b : Exposure) → a ≡ toNothing → common a b ≡ toNothing
 nothing-common a b e = exposure-ext _ _ (λ r. rw (exposed-common, e, exposed-nothing) (omega arith))
-
--- where nothing is left, nothing is cleared
-pub nothing-over : (s : Ways) (a : Arc) → exposureAt s (a .tail) ≡ toNothing → exposureOver s a ≡ exposureAt s (a .tail)
-nothing-over s a e = nothing-common _ _ e ∙ sym e
 
 -- the tail's entry made anew, with the given length
 unfoldable pub clearedBy : Ways → Arc → ℕ → Ways
@@ -166,35 +166,177 @@ module _ (arcs : List Arc) (terminal reach : ℕ) (plain : List Distance) (s : W
           ∙ (getD-set-same (s .exposures) (a .tail) (exposureOver s a) toNothing in-exposures ∙ nothing-common _ _ none)
       clear-at (no n) = other-exposure terminal n ∙ c .terminal-clear
 
--- ---- a round
+-- ---- from arc to arc
 
-module _ (arcs : List Arc) (reach : ℕ) (from : Ways) where
-  pub rounded-start : Rounded arcs reach from 0 from false false
-  rounded-start = record { clears = λ t p c. c; settles = λ e f k h. absurd (not-suc-le-zero h) }
+module _ (arcs : List Arc) where
+  -- over arc j its tail can avoid no more
+  abbrev pub Idle : Ways → ℕ → Type 0
+  Idle s j = (b : ℕ) → exposed (exposureAt s (arcAt arcs j .tail)) b ≤ max (exposed (ofArc (arcAt arcs j)) b) (exposed (exposureAt s (arcAt arcs j .head)) b)
 
-  -- arc k, as the code holds it
-  module _ (k : ℕ) (s : Ways) (changed cut : Bool) (a : Arc) (is : a ≡ arcAt arcs k) (r : Rounded arcs reach from k s changed cut) where
-    -- it clears nothing
-    rounded-settled : (reachedAt (s .entries) (arcAt arcs k .head) ≡ true → (b : ℕ) → exposed (exposureAt s (arcAt arcs k .tail)) b ≤ max (exposed (ofArc (arcAt arcs k)) b) (exposed (exposureAt s (arcAt arcs k .head)) b))
-        → Rounded arcs reach from (k + 1) s changed cut
-    rounded-settled f = record { clears = r .clears; settles = λ d e. below-more _ k (r .settles d e) f }
+  -- no arc lets a tail avoid more
+  abbrev pub Settled : Ways → Type 0
+  Settled s = (j : ℕ) → j < length arcs → reachedAt (s .entries) (arcAt arcs j .head) ≡ true → Idle s j
 
-    pub rounded-idle : exposureOver s a ≡ exposureAt s (a .tail) → Rounded arcs reach from (k + 1) s changed cut
-    rounded-idle e = rounded-settled (λ h b. omega (arith, rw (exposed-common, exposed-joined) at (ap (λ (x : Exposure). exposed x b) (rw is at e))))
+  -- arc j is still to be gone over: its head is pending, or it is an arc into the node at hand, from arc k on
+  pub data Due (pending k j : ℕ) : Type 0 where
+    head-pending : bit pending (arcAt arcs j .head) ≡ 1 → Due pending k j
+    ahead : k ≤ j → arcAt arcs j .head ≡ arcAt arcs k .head → Due pending k j
 
-    pub rounded-unreached : reachedAt (s .entries) (a .head) ≡ false → Rounded arcs reach from (k + 1) s changed cut
-    rounded-unreached e = rounded-settled (λ h. absurd (false≢true (sym e ∙ (ap (λ (x : Arc). reachedAt (s .entries) (x .head)) is ∙ h))))
+  -- what holds between two arcs: of those that are not due, none lets its tail avoid more, unless the reach has kept one from it
+  pub record Between (s : Ways) (pending k : ℕ) (cut : Bool) : Type 0 where
+    pub few : pending < 2 ^ nodes
+    pub to : k ≤ length arcs
+    pub gone-over : cut ≡ false → (j : ℕ) → j < length arcs → reachedAt (s .entries) (arcAt arcs j .head) ≡ true → Due pending k j ⊎ Idle s j
 
-    -- the reach keeps it from clearing
-    pub rounded-cut : Rounded arcs reach from (k + 1) s changed true
-    rounded-cut = record { clears = r .clears; settles = λ d e. absurd (false≢true (sym e)) }
+  -- with nothing pending and no arc ahead, all is settled
+  pub between-settled : {s : Ways} {pending k : ℕ} {cut : Bool} → Between s pending k cut → pending ≡ 0 → length arcs ≤ k → cut ≡ false → Settled s
+  between-settled {s} {pending} {k} t none past e j h r = go (t .gone-over e j h r)
+    where
+      go : Due pending k j ⊎ Idle s j → Idle s j
+      go (inl (head-pending p)) = absurd (omega (arith, ap (λ (x : ℕ). bit x (arcAt arcs j .head)) none, bit-empty (arcAt arcs j .head), p))
+      go (inl (ahead l e)) = absurd (omega arith)
+      go (inr i) = i
 
-    pub rounded-clears : k < length arcs → SoundArc a → reachedAt (s .entries) (a .head) ≡ true → metresAt (s .entries) (a .head) + a .metres ≤ reach
-        → (far : ℕ) → far ≡ max (metresAt (s .entries) (a .tail)) (metresAt (s .entries) (a .head) + a .metres) → Rounded arcs reach from (k + 1) (clearedBy s a far) true cut
-    rounded-clears h sound e l far m = record {
-      clears = λ t p c. rw is (clearing-on arcs t reach p s k far h (rw is at sound) (rw is at e) (rw is at l) (rw is at m) (r .clears t p c));
-      settles = λ d. absurd (false≢true (sym d));
+  -- from the node at hand to the lowest that is pending
+  pub between-node : {s : Ways} {pending k h first : ℕ} {cut : Bool} → Between s pending k cut → length arcs ≤ k → Lowest pending h
+      → NextBy (λ (a : Arc). a .head) arcs h 0 first → Between s (bitAnd pending (pending - 1)) first cut
+  between-node {s} {pending} {k} {h} {first} {cut} t past low chain = record {
+    few = omega (arith, t .few, and-le-l pending (pending - 1));
+    to = chain .to;
+    gone-over = λ e j l r. go j l (t .gone-over e j l r) (ℕ-discrete (arcAt arcs j .head) h);
+  }
+    where
+      go : (j : ℕ) → j < length arcs → Due pending k j ⊎ Idle s j → Dec (arcAt arcs j .head ≡ h) → Due (bitAnd pending (pending - 1)) first j ⊎ Idle s j
+      go j l (inr i) d = inr i
+      go j l (inl (ahead o e)) d = absurd (omega arith)
+      go j l (inl (head-pending p)) (yes q) = elim (decLt j first) [
+        | yes o ↦ absurd (chain .skipped j (omega arith) o q)
+        | no o ↦ inl (ahead (omega arith) (q ∙ sym (chain .here (omega arith))))
+      ]
+      go j l (inl (head-pending p)) (no n) = inl (head-pending (bit-but-lowest pending h _ low n ∙ p))
+
+  -- over arc k, and on to the next arc of its head
+  module _ {s : Ways} {pending k next : ℕ} {cut : Bool} (t : Between s pending k cut) (inside : k < length arcs)
+      (chain : NextBy (λ (a : Arc). a .head) arcs (arcAt arcs k .head) (k + 1) next) where
+    -- what is due stays due, but for arc k itself
+    due-on : (more : ℕ) → ((u : ℕ) → bit pending u ≡ 1 → bit more u ≡ 1) → (j : ℕ) → j < length arcs → (j ≡ k → ⊥) → Due pending k j → Due more next j
+    due-on more f j l n (head-pending p) = head-pending (f _ p)
+    due-on more f j l n (ahead o e) = elim (decLt j next) [
+      | yes x ↦ absurd (chain .skipped j (omega arith) x e)
+      | no x ↦ ahead (omega arith) (e ∙ sym (chain .here (omega arith)))
+    ]
+
+    pub between-idle : (reachedAt (s .entries) (arcAt arcs k .head) ≡ true → Idle s k) → Between s pending next cut
+    between-idle idle = record {
+      few = t .few;
+      to = chain .to;
+      gone-over = λ e j l r. elim (ℕ-discrete j k) [
+        | yes q ↦ inr (rw q (idle (rw q at r)))
+        | no n ↦ ⊎-elim (λ d. inl (due-on pending (λ u p. p) j l n d)) inr (t .gone-over e j l r)
+      ];
     }
+
+    pub between-cut : Between s pending next true
+    between-cut = record { few = t .few; to = chain .to; gone-over = λ e. absurd (false≢true (sym e)) }
+
+    -- the tail's exposure made anew: the tail is pending, and no other node's changes
+    module _ (sound : SoundArc (arcAt arcs k)) (sizes : (length (s .entries) ≡ nodes) × (length (s .exposures) ≡ nodes)) (far : ℕ) where
+      abbrev gone : Arc
+      gone = arcAt arcs k
+
+      abbrev s′ : Ways
+      s′ = clearedBy s gone far
+
+      exposed-tail : exposureAt s′ (gone .tail) ≡ exposureOver s gone
+      unfolding clearedBy
+      exposed-tail = getD-set-same (s .exposures) (gone .tail) (exposureOver s gone) toNothing (omega (arith, sound .tail-node, sizes .1))
+
+      exposed-other : (v : ℕ) → (v ≡ gone .tail → ⊥) → exposureAt s′ v ≡ exposureAt s v
+      unfolding clearedBy
+      exposed-other v n = getD-set-other (s .exposures) (gone .tail) v (exposureOver s gone) toNothing n
+
+      reached-same : (v : ℕ) → reachedAt (s′ .entries) v ≡ reachedAt (s .entries) v
+      unfolding clearedBy
+      reached-same v = elim (ℕ-discrete v (gone .tail)) [
+        | yes q ↦ rw q (ap (λ (e : Distance). e .reached) (getD-set-same (s .entries) (gone .tail) _ unreached (omega (arith, sound .tail-node, sizes .0))))
+        | no n ↦ ap (λ (e : Distance). e .reached) (getD-set-other (s .entries) (gone .tail) v _ unreached n)
+      ]
+
+      -- no node is exposed to more
+      exposed-less : (v b : ℕ) → exposed (exposureAt s′ v) b ≤ exposed (exposureAt s v) b
+      exposed-less v b = elim (ℕ-discrete v (gone .tail)) [
+        | yes q ↦ rw (q, exposed-tail, exposed-common) (omega arith)
+        | no n ↦ omega (arith, ap (λ (x : Exposure). exposed x b) (exposed-other v n))
+      ]
+
+      pub between-clears : Between s′ (with pending (gone .tail)) next cut
+      between-clears = record {
+        few = bits-below nodes _ (λ r e. in-range r e (ℕ-discrete r (gone .tail)));
+        to = chain .to;
+        gone-over = λ e j l r. over j l (sym (reached-same _) ∙ r) e (ℕ-discrete (arcAt arcs j .head) (gone .tail)) (ℕ-discrete j k);
+      }
+        where
+          in-range : (r : ℕ) → bit (with pending (gone .tail)) r ≡ 1 → Dec (r ≡ gone .tail) → r < nodes
+          in-range r e (yes q) = omega (arith, sound .tail-node)
+          in-range r e (no n) = bit-inside nodes pending r (t .few) (sym (bit-with-other pending (gone .tail) r n) ∙ e)
+
+          more : (u : ℕ) → bit pending u ≡ 1 → bit (with pending (gone .tail)) u ≡ 1
+          more u p = elim (ℕ-discrete u (gone .tail)) [
+            | yes q ↦ rw q (bit-with-same pending (gone .tail))
+            | no n ↦ bit-with-other pending (gone .tail) u n ∙ p
+          ]
+
+          over : (j : ℕ) → j < length arcs → reachedAt (s .entries) (arcAt arcs j .head) ≡ true → cut ≡ false → Dec (arcAt arcs j .head ≡ gone .tail) → Dec (j ≡ k) → Due (with pending (gone .tail)) next j ⊎ Idle s′ j
+          over j l r e (yes q) d = inl (head-pending (ap (bit (with pending (gone .tail))) q ∙ bit-with-same pending (gone .tail)))
+          over j l r e (no n) (yes q) = inr (λ b. rw (q, exposed-tail, exposed-other (gone .head) (λ z. n (rw q z)), exposed-common, exposed-joined) (omega arith))
+          over j l r e (no n) (no o) = ⊎-elim (λ d. inl (due-on (with pending (gone .tail)) more j l o d))
+              (λ i. inr (λ b. rw (exposed-other _ n) (omega (arith, i b, exposed-less (arcAt arcs j .tail) b)))) (t .gone-over e j l r)
+
+      -- of the arc as the code holds it
+      pub between-over : (b : Arc) → b ≡ arcAt arcs k → Between (clearedBy s b far) (with pending (b .tail)) next cut
+      between-over b is = rw is between-clears
+
+-- an arc that leaves its tail with what it was exposed to
+pub idle-same : (arcs : List Arc) (s : Ways) (k : ℕ) (a : Arc) → a ≡ arcAt arcs k → exposureOver s a ≡ exposureAt s (a .tail) → Idle arcs s k
+idle-same arcs s k a is e b = omega (arith, rw (exposed-common, exposed-joined) at (ap (λ (x : Exposure). exposed x b) (rw is at e)))
+
+-- and one that clears, as the code holds it
+pub clearing-over : (arcs : List Arc) (terminal reach : ℕ) (plain : List Distance) (s : Ways) (k far : ℕ) (a : Arc) → a ≡ arcAt arcs k → k < length arcs → SoundArc a
+    → reachedAt (s .entries) (a .head) ≡ true → metresAt (s .entries) (a .head) + a .metres ≤ reach
+    → far ≡ max (metresAt (s .entries) (a .tail)) (metresAt (s .entries) (a .head) + a .metres) → Clearing arcs terminal reach plain s → Clearing arcs terminal reach plain (clearedBy s a far)
+clearing-over arcs terminal reach plain s k far a is h sound e l m c =
+    rw is (clearing-on arcs terminal reach plain s k far h (rw is at sound) (rw is at e) (rw is at l) (rw is at m) c)
+
+-- before the first arc only the terminal is pending: every other node is exposed to all that there is
+pub between-start : (arcs : List Arc) (plain : List Distance) (terminal : ℕ) → allSound arcs ≡ true → terminal ≤ lastNode → Between arcs (startOf plain terminal) (with 0 terminal) (length arcs) false
+unfolding startOf
+between-start arcs plain terminal sound node = record {
+  few = bits-below nodes _ (λ r e. in-range r e (ℕ-discrete r terminal));
+  to = omega arith;
+  gone-over = λ e j l r. elim (ℕ-discrete (arcAt arcs j .head) terminal) [
+    | yes q ↦ inl (head-pending (ap (bit (with 0 terminal)) q ∙ bit-with-same 0 terminal))
+    | no n ↦ inr (λ b. all-exposed j l n b)
+  ];
+}
+  where
+    in-range : (r : ℕ) → bit (with 0 terminal) r ≡ 1 → Dec (r ≡ terminal) → r < nodes
+    in-range r e (yes q) = omega arith
+    in-range r e (no n) = absurd (omega (arith, e, bit-with-other 0 terminal r n, bit-empty r))
+
+    first-all : (v : ℕ) → v ≤ lastNode → (v ≡ terminal → ⊥) → getD (set (replicate nodes toAll) terminal toNothing) v toNothing ≡ toAll
+    first-all v h n = getD-set-other (replicate nodes toAll) terminal v toNothing toNothing n ∙ getD-replicate nodes v toAll toNothing (omega arith)
+
+    first-none : getD (set (replicate nodes toAll) terminal toNothing) terminal toNothing ≡ toNothing
+    first-none = getD-set-same (replicate nodes toAll) terminal toNothing toNothing (omega (arith, length-replicate nodes toAll))
+
+    all-exposed : (j : ℕ) → j < length arcs → (arcAt arcs j .head ≡ terminal → ⊥) → Idle arcs (startOf plain terminal) j
+    all-exposed j l n b =
+        let arc = sound-at arcs sound j l in
+        let at-head = first-all (arcAt arcs j .head) (arc .head-node) n in
+        elim (ℕ-discrete (arcAt arcs j .tail) terminal) [
+          | yes q ↦ rw (q, at-head, first-none) (omega (arith, exposed-nothing b))
+          | no m ↦ rw (first-all (arcAt arcs j .tail) (arc .tail-node) m, at-head) (omega arith)
+        ]
 
 -- ---- the end of it
 
@@ -206,7 +348,7 @@ module _ (arcs : List Arc) (terminal : ℕ) (plain : List Distance) (table : Sid
       go true e = e
       go false e = absurd (table .none v e ks (way-free arcs terminal w))
 
-  settled-on-every : {reach : ℕ} (s : Ways) → Clearing arcs terminal reach plain s → Settled arcs (length arcs) s → (b : ℕ) {v : ℕ} {ks : List ℕ} → Way arcs v terminal ks
+  settled-on-every : {reach : ℕ} (s : Ways) → Clearing arcs terminal reach plain s → Settled arcs s → (b : ℕ) {v : ℕ} {ks : List ℕ} → Way arcs v terminal ks
       → exposed (exposureAt s v) b ≡ 1 → exposed (exposureOf arcs ks) b ≡ 1
   unfolding exposureOf
   settled-on-every s c settled b (Way.there e) q =
@@ -225,7 +367,7 @@ module _ (arcs : List Arc) (terminal : ℕ) (plain : List Distance) (table : Sid
       go (no n) f = omega (arith, left, here, exposed-le-one (ofArc (arcAt arcs k)) b, exposed-le-one (exposureAt s (arcAt arcs k .head)) b, exposed-le-one (exposureOf arcs ks) b)
 
 module _ (m : Mesh) (plain : List Distance) (table : SideTable (m .arcs) (m .terminal) toNothing plain) (s : Ways) (c : Clearing (m .arcs) (m .terminal) (m .reach) plain s) where
-  pub finished-settled : (sure : Bool) → (sure ≡ true → Settled (m .arcs) (length (m .arcs)) s) → Finished m plain s sure
+  pub finished-settled : (sure : Bool) → (sure ≡ true → Settled (m .arcs) s) → Finished m plain s sure
   finished-settled sure f = record { clearing = c; on-every = λ e b q ks w. settled-on-every (m .arcs) (m .terminal) plain table s c (f e) b w q }
 
   pub finished-clear : exposureAt s (m .source) ≡ toNothing → Finished m plain s true

@@ -42,14 +42,3 @@ module _ (arcs : List Arc) (terminal : ℕ) where
 pub record Finished (m : Mesh) (plain : List Distance) (s : Ways) (sure : Bool) : Type 0 where
   pub clearing : Clearing (m .arcs) (m .terminal) (m .reach) plain s
   pub on-every : sure ≡ true → (b : ℕ) → exposed (exposureAt s (m .source)) b ≡ 1 → (ks : List ℕ) → Way (m .arcs) (m .source) (m .terminal) ks → exposed (exposureOf (m .arcs) ks) b ≡ 1
-
-module _ (arcs : List Arc) where
-  -- over none of the first n arcs a tail can avoid more
-  abbrev pub Settled : ℕ → Ways → Type 0
-  Settled n s = (k : ℕ) → k < n → reachedAt (s .entries) (arcAt arcs k .head) ≡ true → (b : ℕ)
-      → exposed (exposureAt s (arcAt arcs k .tail)) b ≤ max (exposed (ofArc (arcAt arcs k)) b) (exposed (exposureAt s (arcAt arcs k .head)) b)
-
-  -- what a round leaves that has gone over the first n arcs
-  pub record Rounded (reach : ℕ) (from : Ways) (n : ℕ) (s : Ways) (changed cut : Bool) : Type 0 where
-    pub clears : (terminal : ℕ) (plain : List Distance) → Clearing arcs terminal reach plain from → Clearing arcs terminal reach plain s
-    pub settles : changed ≡ false → cut ≡ false → Settled n s

@@ -14,12 +14,12 @@ ghost use Rattle.problem.specs.Reply.{meshOver, Checked};
 ghost use Rattle.chain.specs.declared.End.{End};
 ghost use Rattle.chain.specs.Chain.{endOf, Chain};
 ghost use Rattle.side.specs.Side.{SideTable};
-ghost use Rattle.floor.specs.Clearing.{startOf, Rounded, Finished};
+ghost use Rattle.floor.specs.Clearing.{startOf, Finished};
 ghost use Rattle.floor.specs.Floor.{isNear, narrowed, Asked};
 
-// A way without loops has at most 31 arcs, so that 31 rounds clear what can be cleared and one more clears nothing. No promise rests on it: the
-// bound only makes it plain that the rounds end.
-const MOST_ROUNDS: u8 = 32;
+// Clearing ends long before: a node is gone back to only when it has fewer risks left, and each turn of it is an arc or a node. No promise rests on the bound,
+// which only makes it plain that it ends.
+const MOST_TURNS: u32 = 1000000;
 
 // What clearing holds, node by node: whether a way leads to the terminal, a length, and what no way found of at most that length avoids; each
 // other risk is avoided by one of these.
@@ -28,20 +28,13 @@ struct Ways {
     exposures: [Exposure; problem::NODES],
 }
 
-// After a round of clearing: whether the round has cleared a risk, and whether the reach has kept an arc from clearing one.
-struct Cleared {
-    ways: Ways,
-    changed: bool,
-    cut: bool,
-}
-
-// After the last round: whether what the source is still exposed to is sure to lie on every way.
+// After clearing: whether what the source is still exposed to is sure to lie on every way.
 struct Known {
     ways: Ways,
     sure: bool,
 }
 
-// Before any round: no way is known that avoids anything. From the terminal, no arc at all avoids every risk.
+// Before any arc: no way is known that avoids anything. From the terminal, no arc at all avoids every risk.
 fn start(plain: [Distance; problem::NODES], terminal: usize) -> Ways
     requires { ⌜ terminal ≤ lastNode ⌝ }
     ensures { λ o. ⌜ o ≡ startOf plain terminal ⌝ }
@@ -75,73 +68,59 @@ fn lengthened(e: Distance, metres: u32) -> Distance
     }
 }
 
-// Goes over every arc once, in order: the tail can avoid what the head can, but for what the arc is exposed to. All risks are cleared side by side, so
-// that a few rounds do what would take a side table for each risk.
-fn round(table: &[u8], reach: u32, from: Ways) -> Cleared
-    requires { ⌜ allSound (arcsOf (now table)) ≡ true ⌝ }
-    ensures { λ o. ⌜ Rounded (arcsOf (now (table .entry))) reach from (length (arcsOf (now (table .entry)))) (o .ways) (o .changed) (o .cut) ⌝ }
+// Clears risks from the terminal outward: over an arc, the tail can avoid what the head can, but for what the arc is exposed to. All risks are cleared side by
+// side, so that this does what would take a side table for each risk. `pending` is the nodes that can avoid more since the arcs into them were gone over, k the
+// next arc into the node at hand. It ends where none is pending, or the source has no risk left. The lengths begin with those of the side table with nothing banned.
+fn clear(table: &[u8], into: &[u8], q: Request, plain: [Distance; problem::NODES]) -> Known
+    requires { ⌜ Checked (now table) q × Chain (endOf End.Head) (arcsOf (now table)) (now into) ⌝ }
+    requires { ⌜ SideTable (arcsOf (now table)) (q .terminal) toNothing plain ⌝ }
+    ensures { λ o. ⌜ Finished (meshOver (arcsOf (now (table .entry))) q) plain (o .ways) (o .sure) ⌝ }
 {
     let n = table.len() / problem::ARC_BYTES;
-    let mut s = from;
-    let mut changed = false;
+    let mut s = start(plain, q.terminal as usize);
+    let mut pending = sets::with(0, q.terminal as u8);
     let mut cut = false;
-    let mut k: usize = 0;
-    while k < n {
+    let mut k = n;
+    let mut turns: u32 = 0;
+    while turns < MOST_TURNS {
+        turns = turns + 1;
+        if n <= k {
+            if pending == 0 {
+                return Known {
+                    ways: s,
+                    sure: !cut,
+                };
+            }
+            if exposure::is_nothing(s.exposures[q.source as usize]) {
+                return Known {
+                    ways: s,
+                    sure: true,
+                };
+            }
+            let head = sets::lowest(pending);
+            pending = pending & (pending - 1);
+            k = chain::first(into, head) as usize;
+            continue;
+        }
         let a = arcs::arc_at(table, k);
-        k = k + 1;
+        k = chain::next(into, k) as usize;
         let tail = a.tail as usize;
         let head = a.head as usize;
         let old = s.exposures[tail];
-        if exposure::is_nothing(old) {
-            continue;
-        }
-        let on = s.exposures[head];
-        let new = exposure::left_over(old, a, on);
+        let new = exposure::left_over(old, a, s.exposures[head]);
         if !exposure::is_same(new, old) {
             let from = s.entries[tail];
             let to = s.entries[head];
             if to.reached {
                 let metres = sum(to.metres, a.metres);
-                if metres <= reach as u64 {
+                if metres <= q.reach as u64 {
                     s.entries[tail] = lengthened(from, metres as u32);
                     s.exposures[tail] = new;
-                    changed = true;
+                    pending = sets::with(pending, a.tail);
                 } else {
                     cut = true;
                 }
             }
-        }
-    }
-    Cleared {
-        ways: s,
-        changed: changed,
-        cut: cut,
-    }
-}
-
-// Clears risks round by round, until a round clears none or the source has none left. The lengths begin with those of the side table with nothing banned.
-fn clear(table: &[u8], q: Request, plain: [Distance; problem::NODES]) -> Known
-    requires { ⌜ Checked (now table) q ⌝ }
-    requires { ⌜ SideTable (arcsOf (now table)) (q .terminal) toNothing plain ⌝ }
-    ensures { λ o. ⌜ Finished (meshOver (arcsOf (now (table .entry))) q) plain (o .ways) (o .sure) ⌝ }
-{
-    let mut s = start(plain, q.terminal as usize);
-    let mut rounds: u8 = 0;
-    while rounds < MOST_ROUNDS {
-        rounds = rounds + 1;
-        let c = round(table, q.reach, s);
-        s = c.ways;
-        if !c.changed {
-            return Known {
-                ways: s,
-                sure: !c.cut,
-            };
-        }
-        if exposure::is_nothing(s.exposures[q.source as usize]) {
-            return Known {
-                ways: s,
-                sure: true,
-            };
         }
     }
     Known {
@@ -204,7 +183,7 @@ pub fn common_exposure(
     requires { ⌜ SideTable (arcsOf (now table)) (q .terminal) toNothing side ⌝ }
     ensures { λ o. ⌜ o ≡ onEvery (ranking (meshOver (arcsOf (now (table .entry))) q)) ⌝ }
 {
-    let known = clear(table, q, side);
+    let known = clear(table, into, q, side);
     let mut left = narrow(exposure::all(), known.ways, q);
     if known.sure {
         return left;

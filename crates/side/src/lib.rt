@@ -1,10 +1,12 @@
 // The side table: for each node the shortest length to the terminal over arcs that are exposed to nothing banned (01, When a reply is settled).
+use problem::Arc;
 use problem::Exposure;
 ghost use mathlib.Core.Path.{_≡_};
 ghost use mathlib.Core.Bool.{true};
 ghost use Prim.Native.Nat.{_+_, _≤_, _<_, _^_};
 ghost use lib.ListN.{length};
 ghost use Rattle.problem.specs.Table.{lastNode, nodes, mostInTable, arcsOf, allSound};
+ghost use Rattle.problem.specs.Exposures.{ofArc, disjoint};
 ghost use Rattle.problem.specs.Routes.{arcAt};
 ghost use Rattle.chain.specs.declared.End.{End};
 ghost use Rattle.chain.specs.Chain.{endOf, Chain};
@@ -100,6 +102,17 @@ struct Free {
     metres: u32,
 }
 
+// Whether the arc is free. Mostly nothing is banned, and then what it is exposed to is not looked at.
+fn is_free(a: Arc, banned: Exposure) -> bool
+    ensures { λ o. ⌜ o ≡ disjoint (ofArc a) banned ⌝ }
+{
+    if exposure::is_nothing(banned) {
+        return true;
+    }
+    let own = exposure::of_arc(a);
+    exposure::is_disjoint(own, banned)
+}
+
 // The first free arc from arc i on, along the chain of the arcs into i's head.
 fn free_from(table: &[u8], into: &[u8], i: usize, banned: Exposure) -> Free
     requires { ⌜ Chained (now table) (now into) × (i ≤ length (arcsOf (now table))) ⌝ }
@@ -109,8 +122,7 @@ fn free_from(table: &[u8], into: &[u8], i: usize, banned: Exposure) -> Free
     let mut k = i;
     while k < count {
         let a = arcs::arc_at(table, k);
-        let own = exposure::of_arc(a);
-        if exposure::is_disjoint(own, banned) {
+        if is_free(a, banned) {
             return Free {
                 found: true,
                 arc: k,

@@ -49,7 +49,7 @@ common-exposure-spec =
     (tie.spec
     Inv-loop
     μ-loop
-    (λ c κs. (c .before .before .pre .0 .0, c .before .before .pre .1))
+    (λ c κs. c .before .before .pre)
     (λ c κs. search needs)
     (λ c κs. c .before .before .before .before .pre .0 .0 .source-node)
     sure

@@ -5,7 +5,7 @@ use Prim.Native.Nat.{_-_, _<_}
 use native.Mathlib.Omega.{arith}
 use lib.ListN.{length}
 use Rattle.problem.specs.Table.{arcsOf}
-use Rattle.problem.specs.declared.Exposure.{Exposure}
+use Rattle.problem.specs.declared.Arc.{Arc}
 use Rattle.problem.specs.Exposures.{ofArc, disjoint}
 use Rattle.problem.specs.Routes.{arcAt}
 use Rattle.problem.proofs.TableLaws.{arcs-length}
@@ -20,9 +20,9 @@ abbrev μ-loop : tie.MeasureT-loop
 μ-loop table into i banned count k₀ k = count - k
 
 -- what was asked of arc k
-answer : (c : tie.After-is-disjoint Inv-loop μ-loop) → let table = c .before .before .before .before .before .before .before .args .table .now in
-    c .is-disjoint .result ≡ disjoint (ofArc (arcAt (arcsOf table) (c .before .before .before .before .loop .k))) (c .before .before .before .before .before .before .before .args .banned)
-answer c = c .is-disjoint .ensures ∙ ap (λ (o : Exposure). disjoint o (c .before .before .before .before .before .before .before .args .banned)) (c .before .of-arc .ensures ∙ ap ofArc (c .before .before .arc-at .ensures))
+answer : (c : tie.After-is-free Inv-loop μ-loop) → let s = c .before .before .before .before .before .before in
+    c .is-free .result ≡ disjoint (ofArc (arcAt (arcsOf (s .args .table .now)) (c .before .before .before .loop .k))) (s .args .banned)
+answer c = c .is-free .ensures ∙ ap (λ (a : Arc). disjoint (ofArc a) (c .before .before .before .before .before .before .args .banned)) (c .before .arc-at .ensures)
 
 loop-holds : tie.Need-loop-holds Inv-loop μ-loop
 loop-holds c = let s = c .before .before in (sym (arcs-length _), passed-none _ _ _ (s .pre .1))
@@ -33,12 +33,12 @@ arc-at-requires c κs = omega (arith, c .before .loop .inv .0)
 returns : tie.Need-returns Inv-loop μ-loop
 returns c =
     let t = c .before .before in
-    let l = t .before .before .before .before .loop in
-    passed-found _ _ _ _ _ _ (l .inv .1) (omega (arith, l .inv .0)) (t .before .before .arc-at .ensures) (sym (answer t) ∙ c .before .if1 .taken)
+    let l = t .before .before .before .loop in
+    passed-found _ _ _ _ _ _ (l .inv .1) (omega (arith, l .inv .0)) (t .before .arc-at .ensures) (sym (answer t) ∙ c .before .if1 .taken)
 
 next-requires : tie.Need-next-requires Inv-loop μ-loop
 next-requires c κs =
-    let l = c .before .before .before .before .before in
+    let l = c .before .before .before .before in
     let s = l .before .before .before in
     (s .pre .0 .chained .size, omega (arith, l .loop .inv .0, s .pre .0 .few))
 
@@ -46,24 +46,24 @@ cast-k : tie.Need-cast-k Inv-loop μ-loop
 cast-k c = omega arith
 
 -- the chain's step from arc k
-again : (c : tie.After-next Inv-loop μ-loop) → let s = c .before .before .before .before .before .before .before .before .before in
+again : (c : tie.After-next Inv-loop μ-loop) → let s = c .before .before .before .before .before .before .before .before in
     Passed (s .args .banned) (arcsOf (s .args .table .now)) (arcAt (arcsOf (s .args .table .now)) (s .args .i) .head) (s .args .i) (c .next .result)
 again c =
     let t = c .before .before in
-    let l = t .before .before .before .before in
+    let l = t .before .before .before in
     let s = l .before .before .before in
     let inside : l .loop .k < length (arcsOf (s .args .table .now)) = omega (arith, l .loop .inv .0) in
     rw (c .next .ensures) (passed-next _ _ _ _ _ _ (l .loop .inv .1) inside (sym (answer t) ∙ c .before .if1 .left) (s .pre .0 .chained .next (l .loop .k) inside))
 
 loop-less : tie.Need-loop-less Inv-loop μ-loop
 loop-less c =
-    let l = c .before .before .before .before .before .before in
+    let l = c .before .before .before .before .before in
     let s = l .before .before .before in
     let inside : l .loop .k < length (arcsOf (s .args .table .now)) = omega (arith, l .loop .inv .0) in
     omega (arith, c .next .ensures, s .pre .0 .chained .next (l .loop .k) inside .from)
 
 loop-again : tie.Need-loop-again Inv-loop μ-loop
-loop-again c = (c .before .before .before .before .before .before .loop .inv .0, again c)
+loop-again c = (c .before .before .before .before .before .loop .inv .0, again c)
 
 returns-2 : tie.Need-returns-2 Inv-loop μ-loop
 returns-2 c = let l = c .before .loop in passed-all _ _ _ _ (l .k) _ (l .inv .1) (l .inv .0) (omega arith)
@@ -76,7 +76,6 @@ free-from-spec =
     μ-loop
     loop-holds
     arc-at-requires
-    (λ c κs. tt)
     (λ c κs. tt)
     (λ c. omega arith)
     returns
