@@ -29,7 +29,7 @@ use Rattle.track.specs.declared.Track.{Track}
 use Rattle.track.specs.Track.{Holds}
 use Rattle.find.specs.declared.Want.{Want}
 use Rattle.find.specs.Find.{isWanted, InRange, Sure, Sought, soughtIn, meet, seek, soughtFrom, countOf, NonePasses, First, passedIn, Outcome}
-use Rattle.find.specs.Run.{passedAt, countAt, runSize, wantIn, arcsFound, soughtSoFar, Begins, ArcsKnown, Finding, Seeks}
+use Rattle.find.specs.Run.{passedAt, countAt, wantIn, arcsFound, soughtSoFar, Begins, ArcsKnown, Finding, Seeks}
 use Rattle.find.proofs.TrailLaws.{trail-start}
 use Rattle.find.proofs.SeekLaws.{meet-found, meet-other, meet-standby, meet-wanted, meet-passed}
 use Rattle.find.proofs.PutLaws.{known-most, none-so-far}

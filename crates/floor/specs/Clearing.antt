@@ -1,14 +1,14 @@
 -- Clearing: for each node, what no way found so far avoids; the other risks are cleared. Assumes nothing.
 use mathlib.Core.Path.{_≡_}
-use mathlib.Core.Bool.{Bool, true, false}
+use mathlib.Core.Bool.{Bool, true}
 use mathlib.Core.List.{List}
 use Prim.Native.Nat.{ℕ, _≤_, _<_, max}
 use lib.ListN.{length, getD, set, replicate}
 use Rattle.problem.specs.declared.Arc.{Arc}
 use Rattle.problem.specs.declared.Exposure.{Exposure}
 use Rattle.problem.specs.Table.{nodes, hazards}
-use Rattle.problem.specs.Exposures.{exposed, toNothing, toAll, ofArc}
-use Rattle.problem.specs.Routes.{Mesh, arcAt, metresOf, exposureOf, Way}
+use Rattle.problem.specs.Exposures.{exposed, toNothing, toAll}
+use Rattle.problem.specs.Routes.{Mesh, metresOf, exposureOf, Way}
 use Rattle.side.specs.declared.Distance.{Distance}
 use Rattle.side.specs.Side.{reachedAt, metresAt}
 use Rattle.floor.specs.declared.Ways.{Ways}

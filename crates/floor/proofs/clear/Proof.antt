@@ -3,7 +3,7 @@
 use mathlib.Core.Path.{_≡_, sym, ap, _∙_, subst}
 use mathlib.Core.Bool.{false≢true}
 use mathlib.Core.List.{List}
-use Prim.Native.Nat.{ℕ, _+_, _-_, _≤_, _<_}
+use Prim.Native.Nat.{_+_, _-_, _<_}
 use native.Mathlib.Omega.{arith}
 use lib.ListN.{length}
 use borrow.Author.Needs.{needs}
@@ -13,11 +13,11 @@ use Rattle.problem.specs.Table.{nodes, arcsOf, SoundArc}
 use Rattle.problem.specs.Exposures.{toNothing}
 use Rattle.problem.specs.Routes.{arcAt}
 use Rattle.problem.specs.declared.Arc.{Arc}
-use Rattle.problem.proofs.TableLaws.{arcs-length, arcs-inside, sound-at}
+use Rattle.problem.proofs.TableLaws.{arcs-length, sound-at}
 use Rattle.chain.specs.Chain.{endOf, NextBy}
 use Rattle.side.specs.declared.Distance.{Distance}
 use Rattle.side.specs.Side.{reachedAt}
-use Rattle.floor.specs.Clearing.{exposureAt, Clearing}
+use Rattle.floor.specs.Clearing.{Clearing}
 use Rattle.floor.proofs.ClearLaws.{clearing-start, clearing-over, exposureOver, clearedBy, Between, between-start, between-node, between-idle, between-cut, between-over, between-settled, idle-same, finished-settled, finished-clear, finished-unsure}
 use Rattle.floor.proofs.clear.Statement.{statement}
 use Rattle.floor.proofs.clear.Tie as tie

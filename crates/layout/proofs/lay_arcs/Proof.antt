@@ -1,5 +1,5 @@
 -- `layout::lay_arcs` meets its contract. The invariant: the words of the first k arcs are written. The measure: the arcs left. Assumes nothing.
-use Prim.Native.Nat.{ℕ, _+_, _*_, _-_, _≤_}
+use Prim.Native.Nat.{ℕ, _-_, _≤_}
 use mathlib.Core.List.{[], _∷_}
 use mathlib.Core.Path.{_≡_, sym, ap, ap₂, _∙_}
 use native.Mathlib.Nat.{zero-add}
