@@ -86,6 +86,10 @@ exposureOver s a = common (exposureAt s (a .tail)) (joined (ofArc a) (exposureAt
 nothing-common : (a b : Exposure) → a ≡ toNothing → common a b ≡ toNothing
 nothing-common a b e = exposure-ext _ _ (λ r. rw (exposed-common, e, exposed-nothing) (omega arith))
 
+-- where nothing is left, nothing is cleared
+pub nothing-over : (s : Ways) (a : Arc) → exposureAt s (a .tail) ≡ toNothing → exposureOver s a ≡ exposureAt s (a .tail)
+nothing-over s a e = nothing-common _ _ e ∙ sym e
+
 -- the tail's entry made anew, with the given length
 unfoldable pub clearedBy : Ways → Arc → ℕ → Ways
 clearedBy s a metres = record { entries = set (s .entries) (a .tail) (record { metres = metres; reached = reachedAt (s .entries) (a .tail) }); exposures = set (s .exposures) (a .tail) (exposureOver s a) }

@@ -107,6 +107,9 @@ fn clear(table: &[u8], into: &[u8], q: Request, plain: [Distance; problem::NODES
         let tail = a.tail as usize;
         let head = a.head as usize;
         let old = s.exposures[tail];
+        if exposure::is_nothing(old) {
+            continue;
+        }
         let new = exposure::left_over(old, a, s.exposures[head]);
         if !exposure::is_same(new, old) {
             let from = s.entries[tail];

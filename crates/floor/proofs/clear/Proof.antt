@@ -18,7 +18,7 @@ use Rattle.chain.specs.Chain.{endOf, NextBy}
 use Rattle.side.specs.declared.Distance.{Distance}
 use Rattle.side.specs.Side.{reachedAt}
 use Rattle.floor.specs.Clearing.{Clearing}
-use Rattle.floor.proofs.ClearLaws.{clearing-start, clearing-over, exposureOver, clearedBy, Between, between-start, between-node, between-idle, between-cut, between-over, between-settled, idle-same, finished-settled, finished-clear, finished-unsure}
+use Rattle.floor.proofs.ClearLaws.{clearing-start, clearing-over, exposureOver, nothing-over, clearedBy, Between, between-start, between-node, between-idle, between-cut, between-over, between-settled, idle-same, finished-settled, finished-clear, finished-unsure}
 use Rattle.floor.proofs.clear.Statement.{statement}
 use Rattle.floor.proofs.clear.Tie as tie
 
@@ -107,34 +107,45 @@ next c =
 
 -- from the test of what the tail is left with back to the next arc
 abbrev gone : tie.After-is-same Inv-loop μ-loop → tie.After-next Inv-loop μ-loop
-gone c = c .before .before .before .before .before .before
+gone c = c .before .before .before .before .before .before .before .before
 
 over : (c : tie.After-is-same Inv-loop μ-loop) → c .before .left-over .result ≡ exposureOver (turn (arc (gone c)) .loop .s) (arc (gone c) .arc-at .result)
 unfolding toNothing
 over c = c .before .left-over .ensures
 
-idle : tie.Need-loop-again-5 Inv-loop μ-loop
+-- where it was left with nothing before
+nothing : tie.Need-loop-again-2 Inv-loop μ-loop
+unfolding toNothing
+nothing c =
+    let asked = c .before in
+    let n = asked .before .before .before .before in
+    let l = turn (arc n) in
+    let a = arc n .arc-at in
+    let same = nothing-over (l .loop .s) (a .result) (asked .is-nothing2 .ensures .0 (c .if4 .taken)) in
+    (l .loop .inv .0, between-idle _ (l .loop .inv .1) (inside (arc n)) (next n) (λ r. idle-same (arcsOf (start l .args .table .now)) (l .loop .s) (l .loop .k) (a .result) (a .ensures) same), l .loop .inv .2)
+
+idle : tie.Need-loop-again-6 Inv-loop μ-loop
 unfolding toNothing
 idle c =
     let asked = c .before in
     let n = gone asked in
     let l = turn (arc n) in
-    let same = sym (over asked) ∙ asked .is-same .ensures .0 (not-false _ (c .if4 .left)) in
+    let same = sym (over asked) ∙ asked .is-same .ensures .0 (not-false _ (c .if5 .left)) in
     (l .loop .inv .0, between-idle _ (l .loop .inv .1) (inside (arc n)) (next n) (λ r. idle-same (arcsOf (start l .args .table .now)) (l .loop .s) (l .loop .k) (arc n .arc-at .result) (arc n .arc-at .ensures) same), l .loop .inv .2)
 
-unreached : tie.Need-loop-again-4 Inv-loop μ-loop
+unreached : tie.Need-loop-again-5 Inv-loop μ-loop
 unreached c =
     let n = gone (c .before .before .before .before) in
     let l = turn (arc n) in
-    (l .loop .inv .0, between-idle _ (l .loop .inv .1) (inside (arc n)) (next n) (λ r. absurd (false≢true (sym (c .if5 .left) ∙ (ap (λ (a : Arc). reachedAt (l .loop .s .entries) (a .head)) (arc n .arc-at .ensures) ∙ r)))), l .loop .inv .2)
+    (l .loop .inv .0, between-idle _ (l .loop .inv .1) (inside (arc n)) (next n) (λ r. absurd (false≢true (sym (c .if6 .left) ∙ (ap (λ (a : Arc). reachedAt (l .loop .s .entries) (a .head)) (arc n .arc-at .ensures) ∙ r)))), l .loop .inv .2)
 
-cut : tie.Need-loop-again-3 Inv-loop μ-loop
+cut : tie.Need-loop-again-4 Inv-loop μ-loop
 cut c =
     let n = gone (c .before .before .before .before .before .before .before) in
     let l = turn (arc n) in
     (l .loop .inv .0, between-cut _ (l .loop .inv .1) (inside (arc n)) (next n), l .loop .inv .2)
 
-cleared : tie.Need-loop-again-2 Inv-loop μ-loop
+cleared : tie.Need-loop-again-3 Inv-loop μ-loop
 unfolding clearedBy
 cleared c =
     let short = c .before .before in
@@ -146,7 +157,7 @@ cleared c =
     let summed = short .before .before .sum .ensures in (
       l .loop .inv .0,
       rw (c .before .lengthened .ensures, over asked, c .with2 .ensures) (between-over _ (l .loop .inv .1) (inside (arc n)) (next n) (rw is at (sound (arc n))) (held .entries-size, held .exposures-size) _ _ is),
-      λ plain begun. rw (c .before .lengthened .ensures, over asked) (clearing-over _ _ _ _ _ (l .loop .k) _ _ is (inside (arc n)) (sound (arc n)) (short .before .before .before .if5 .taken) (omega (arith, short .if6 .taken, summed)) (omega (arith, summed)) (l .loop .inv .2 plain begun)),
+      λ plain begun. rw (c .before .lengthened .ensures, over asked) (clearing-over _ _ _ _ _ (l .loop .k) _ _ is (inside (arc n)) (sound (arc n)) (short .before .before .before .if6 .taken) (omega (arith, short .if7 .taken, summed)) (omega (arith, summed)) (l .loop .inv .2 plain begun)),
     )
 
 unsure : tie.Need-returns-3 Inv-loop μ-loop
@@ -183,8 +194,11 @@ clear-spec =
     (λ c. omega arith)
     (λ c. omega arith)
     (λ c. omega (arith, sound (c .before .before .before) .tail-node))
+    (λ c κs. search needs)
     (λ c. omega arith)
-    (λ c. omega (arith, sound (c .before .before .before .before) .head-node))
+    nothing
+    (λ c. omega arith)
+    (λ c. omega (arith, sound (c .before .before .before .before .before .before) .head-node))
     (λ c κs. search needs)
     (λ c κs. search needs)
     (λ c. omega arith)
@@ -193,7 +207,7 @@ clear-spec =
     (λ c. omega (arith, sound (arc (gone (c .before .before))) .head-node))
     (λ c κs. search needs)
     (λ c. omega arith)
-    (λ c. omega (arith, c .before .before .before .before .before .before .before .before .before .before .before .before .before .before .before .before .before .before .before .before .before .before .before .before .pre .0 .0 .reach-range))
+    (λ c. omega (arith, c .before .before .before .before .before .before .before .before .before .before .before .before .before .before .before .before .before .before .before .before .before .before .before .before .before .before .pre .0 .0 .reach-range))
     (λ c κs. search needs)
     (λ c. omega arith)
     (λ c. omega (arith, sound (arc (gone (c .before .before .before .before .before .before .before .before))) .tail-node))
