@@ -48,6 +48,7 @@ fn one_fewer(n: u32) -> u32 {
     n - 1
 }
 
+// A count as lengths and routes are told, in words.
 fn wide(n: u32) -> u64
     ensures { λ r. ⌜ r ≡ n ⌝ }
 {

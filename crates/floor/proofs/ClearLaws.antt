@@ -7,11 +7,11 @@ use mathlib.Core.List.{List, [], _∷_}
 use Prim.Native.Nat.{ℕ, _+_, _-_, _≤_, _<_, _^_, min, max}
 use native.Mathlib.Decide.{ℕ-discrete, decLt}
 use native.Mathlib.Omega.{arith}
-use lib.ListN.{length, getD, set, replicate, length-set, length-replicate, getD-replicate, List·getD-eq-default}
+use lib.ListN.{length, set, replicate, length-set, length-replicate, getD-replicate}
 use lib.Seq.{getD-set-same, getD-set-other}
 use lib.Bits.{bitAnd, and-le-l}
 use Rattle.laws.specs.Sets.{bit, with, Lowest}
-use Rattle.laws.proofs.SetLaws.{bit-empty, bit-with-same, bit-with-other, bits-below, bit-inside, bit-but-lowest}
+use Rattle.laws.proofs.SetLaws.{bit-empty, bit-le-one, bit-with, bit-with-same, with-inside, bit-but-lowest}
 use Rattle.problem.specs.Table.{lastNode, nodes, hazards, allSound, SoundArc}
 use Rattle.problem.specs.declared.Arc.{Arc}
 use Rattle.problem.specs.declared.Exposure.{Exposure}
@@ -22,6 +22,7 @@ use Rattle.problem.proofs.ExposureLaws.{exposed-le-one, exposed-nothing, expose
 use Rattle.chain.specs.Chain.{NextBy}
 use Rattle.side.specs.declared.Distance.{Distance}
 use Rattle.side.specs.Side.{unreached, entryAt, reachedAt, metresAt, SideTable}
+use Rattle.side.proofs.StoreLaws.{reached-inside}
 use Rattle.floor.specs.declared.Ways.{Ways}
 use Rattle.floor.specs.Clearing.{exposureAt, startOf, Avoids, Clearing, Finished}
 
@@ -47,34 +48,29 @@ module _ (arcs : List Arc) (terminal : ℕ) where
 
 -- ---- before the first arc
 
-module _ (arcs : List Arc) (terminal reach : ℕ) (plain : List Distance) (size : length plain ≡ nodes) (node : terminal ≤ lastNode) where
-  abbrev first : List Exposure
-  first = set (replicate nodes toAll) terminal toNothing
-
-  -- a reached node is one of the 32
-  reached-node : (v : ℕ) → reachedAt plain v ≡ true → v < nodes
-  reached-node v e = elim (decLt v nodes) [
-    | yes h ↦ h
-    | no h ↦ absurd (false≢true (sym (ap (λ (x : Distance). x .reached) (List·getD-eq-default plain unreached {n = v} (omega (arith, size)))) ∙ e))
-  ]
-
-  -- and exposed to all that there is, but for the terminal
-  start-exposed : (v : ℕ) → v < nodes → (v ≡ terminal → ⊥) → (b : ℕ) → b < hazards → exposed (getD first v toNothing) b ≡ 1
-  start-exposed v h n b l =
-      ap (λ (x : Exposure). exposed x b) (getD-set-other (replicate nodes toAll) terminal v toNothing toNothing n ∙ getD-replicate nodes v toAll toNothing h) ∙ exposed-all b l
-
-  pub clearing-start : Clearing arcs terminal reach plain (startOf plain terminal)
+module _ (plain : List Distance) (terminal : ℕ) (node : terminal ≤ lastNode) where
+  -- a node is exposed to all that there is
+  start-all : (v : ℕ) → v < nodes → (v ≡ terminal → ⊥) → exposureAt (startOf plain terminal) v ≡ toAll
   unfolding startOf
-  clearing-start = record {
+  start-all v h n = getD-set-other (replicate nodes toAll) terminal v toNothing toNothing n ∙ getD-replicate nodes v toAll toNothing h
+
+  -- but for the terminal
+  start-none : exposureAt (startOf plain terminal) terminal ≡ toNothing
+  unfolding startOf
+  start-none = getD-set-same (replicate nodes toAll) terminal toNothing toNothing (omega (arith, length-replicate nodes toAll))
+
+  pub clearing-start : (arcs : List Arc) (reach : ℕ) → length plain ≡ nodes → Clearing arcs terminal reach plain (startOf plain terminal)
+  unfolding startOf
+  clearing-start arcs reach size = record {
     entries-size = size;
     exposures-size = length-set (replicate nodes toAll) terminal toNothing ∙ length-replicate nodes toAll;
     same-reached = λ v. refl;
     avoids = λ v e b l z. elim (ℕ-discrete v terminal) [
       | yes q ↦ avoids-there arcs terminal b (metresAt plain v) q
-      | no n ↦ absurd (omega (arith, z, start-exposed v (reached-node v e) n b l))
+      | no n ↦ absurd (omega (arith, z, ap (λ (x : Exposure). exposed x b) (start-all v (omega (arith, reached-inside plain v e, size)) n), exposed-all b l))
     ];
     within = λ v. omega arith;
-    terminal-clear = getD-set-same (replicate nodes toAll) terminal toNothing toNothing (omega (arith, length-replicate nodes toAll));
+    terminal-clear = start-none;
   }
 
 -- ---- one arc
@@ -94,21 +90,45 @@ nothing-over s a e = nothing-common _ _ e ∙ sym e
 unfoldable pub clearedBy : Ways → Arc → ℕ → Ways
 clearedBy s a metres = record { entries = set (s .entries) (a .tail) (record { metres = metres; reached = reachedAt (s .entries) (a .tail) }); exposures = set (s .exposures) (a .tail) (exposureOver s a) }
 
+-- what is changed by that: the tail's entry and exposure, but for whether it is reached
+module _ (s : Ways) (a : Arc) (far : ℕ) (sizes : (length (s .entries) ≡ nodes) × (length (s .exposures) ≡ nodes)) (tail-node : a .tail ≤ lastNode) where
+  abbrev then : Ways
+  then = clearedBy s a far
+
+  cleared-sizes : (length (then .entries) ≡ nodes) × (length (then .exposures) ≡ nodes)
+  unfolding clearedBy
+  cleared-sizes = (length-set (s .entries) (a .tail) _ ∙ sizes .0, length-set (s .exposures) (a .tail) _ ∙ sizes .1)
+
+  cleared-entry : entryAt (then .entries) (a .tail) ≡ record { metres = far; reached = reachedAt (s .entries) (a .tail) }
+  unfolding clearedBy
+  cleared-entry = getD-set-same (s .entries) (a .tail) _ unreached (omega (arith, sizes .0))
+
+  other-entry : (v : ℕ) → (v ≡ a .tail → ⊥) → entryAt (then .entries) v ≡ entryAt (s .entries) v
+  unfolding clearedBy
+  other-entry v n = getD-set-other (s .entries) (a .tail) v _ unreached n
+
+  cleared-exposure : exposureAt then (a .tail) ≡ exposureOver s a
+  unfolding clearedBy
+  cleared-exposure = getD-set-same (s .exposures) (a .tail) (exposureOver s a) toNothing (omega (arith, sizes .1))
+
+  other-exposure : (v : ℕ) → (v ≡ a .tail → ⊥) → exposureAt then v ≡ exposureAt s v
+  unfolding clearedBy
+  other-exposure v n = getD-set-other (s .exposures) (a .tail) v (exposureOver s a) toNothing n
+
+  cleared-reached : (v : ℕ) → reachedAt (then .entries) v ≡ reachedAt (s .entries) v
+  cleared-reached v = elim (ℕ-discrete v (a .tail)) [
+    | yes q ↦ rw q (ap (λ (e : Distance). e .reached) cleared-entry)
+    | no n ↦ ap (λ (e : Distance). e .reached) (other-entry v n)
+  ]
+
 module _ (arcs : List Arc) (terminal reach : ℕ) (plain : List Distance) (s : Ways) (k far : ℕ) (inside : k < length arcs) (sound : SoundArc (arcAt arcs k))
     (reached : reachedAt (s .entries) (arcAt arcs k .head) ≡ true) (fits : metresAt (s .entries) (arcAt arcs k .head) + arcAt arcs k .metres ≤ reach)
     (longer : far ≡ max (metresAt (s .entries) (arcAt arcs k .tail)) (metresAt (s .entries) (arcAt arcs k .head) + arcAt arcs k .metres)) (c : Clearing arcs terminal reach plain s) where
   abbrev a : Arc
   a = arcAt arcs k
 
-  -- the tail's entry
-  abbrev new : Distance
-  new = record { metres = far; reached = reachedAt (s .entries) (a .tail) }
-
-  in-entries : a .tail < length (s .entries)
-  in-entries = omega (arith, sound .tail-node, c .entries-size)
-
-  in-exposures : a .tail < length (s .exposures)
-  in-exposures = omega (arith, sound .tail-node, c .exposures-size)
+  abbrev sizes : (length (s .entries) ≡ nodes) × (length (s .exposures) ≡ nodes)
+  sizes = (c .entries-size, c .exposures-size)
 
   -- as it was, or over the arc
   tail-avoids : reachedAt (s .entries) (a .tail) ≡ true → (b : ℕ) → b < hazards → exposed (exposureOver s a) b ≡ 0 → Avoids arcs terminal (a .tail) b far
@@ -122,53 +142,42 @@ module _ (arcs : List Arc) (terminal reach : ℕ) (plain : List Distance) (s : W
       go (no n) = avoids-over arcs terminal k inside (omega (arith, both)) (c .avoids (a .head) reached b l (omega (arith, both))) (omega arith)
 
   pub clearing-on : Clearing arcs terminal reach plain (clearedBy s a far)
-  unfolding clearedBy
   clearing-on = record {
-    entries-size = length-set (s .entries) (a .tail) new ∙ c .entries-size;
-    exposures-size = length-set (s .exposures) (a .tail) (exposureOver s a) ∙ c .exposures-size;
-    same-reached = λ v. reached-at v (ℕ-discrete v (a .tail)) ∙ c .same-reached v;
-    avoids = λ v e b l z. avoids-at v (sym (reached-at v (ℕ-discrete v (a .tail))) ∙ e) b l z (ℕ-discrete v (a .tail));
+    entries-size = cleared-sizes s a far sizes (sound .tail-node) .0;
+    exposures-size = cleared-sizes s a far sizes (sound .tail-node) .1;
+    same-reached = λ v. still v ∙ c .same-reached v;
+    avoids = λ v e b l z. avoids-at v (sym (still v) ∙ e) b l z (ℕ-discrete v (a .tail));
     within = λ v. within-at v (ℕ-discrete v (a .tail));
     terminal-clear = clear-at (ℕ-discrete terminal (a .tail));
   }
     where
-      tail-entry : {v : ℕ} → v ≡ a .tail → getD (set (s .entries) (a .tail) new) v unreached ≡ new
-      tail-entry q = ap (λ (u : ℕ). getD (set (s .entries) (a .tail) new) u unreached) q ∙ getD-set-same (s .entries) (a .tail) new unreached in-entries
+      still : (v : ℕ) → reachedAt (clearedBy s a far .entries) v ≡ reachedAt (s .entries) v
+      still = cleared-reached s a far sizes (sound .tail-node)
 
-      other-entry : (v : ℕ) → (v ≡ a .tail → ⊥) → getD (set (s .entries) (a .tail) new) v unreached ≡ entryAt (s .entries) v
-      other-entry v n = getD-set-other (s .entries) (a .tail) v new unreached n
+      metres-tail : metresAt (clearedBy s a far .entries) (a .tail) ≡ far
+      metres-tail = ap (λ (e : Distance). e .metres) (cleared-entry s a far sizes (sound .tail-node))
 
-      reached-at : (v : ℕ) → Dec (v ≡ a .tail) → getD (set (s .entries) (a .tail) new) v unreached .reached ≡ reachedAt (s .entries) v
-      reached-at v (yes q) = ap (λ (e : Distance). e .reached) (tail-entry q) ∙ ap (reachedAt (s .entries)) (sym q)
-      reached-at v (no n) = ap (λ (e : Distance). e .reached) (other-entry v n)
+      other-metres : (v : ℕ) → (v ≡ a .tail → ⊥) → metresAt (clearedBy s a far .entries) v ≡ metresAt (s .entries) v
+      other-metres v n = ap (λ (e : Distance). e .metres) (other-entry s a far sizes (sound .tail-node) v n)
 
-      metres-tail : {v : ℕ} → v ≡ a .tail → getD (set (s .entries) (a .tail) new) v unreached .metres ≡ far
-      metres-tail q = ap (λ (e : Distance). e .metres) (tail-entry q)
+      exposed-tail : exposureAt (clearedBy s a far) (a .tail) ≡ exposureOver s a
+      exposed-tail = cleared-exposure s a far sizes (sound .tail-node)
 
-      other-metres : (v : ℕ) → (v ≡ a .tail → ⊥) → getD (set (s .entries) (a .tail) new) v unreached .metres ≡ metresAt (s .entries) v
-      other-metres v n = ap (λ (e : Distance). e .metres) (other-entry v n)
+      exposed-other : (v : ℕ) → (v ≡ a .tail → ⊥) → exposureAt (clearedBy s a far) v ≡ exposureAt s v
+      exposed-other = other-exposure s a far sizes (sound .tail-node)
 
-      other-exposure : (v : ℕ) → (v ≡ a .tail → ⊥) → getD (set (s .exposures) (a .tail) (exposureOver s a)) v toNothing ≡ exposureAt s v
-      other-exposure v n = getD-set-other (s .exposures) (a .tail) v (exposureOver s a) toNothing n
+      avoids-at : (v : ℕ) → reachedAt (s .entries) v ≡ true → (b : ℕ) → b < hazards → exposed (exposureAt (clearedBy s a far) v) b ≡ 0 → Dec (v ≡ a .tail)
+          → Avoids arcs terminal v b (metresAt (clearedBy s a far .entries) v)
+      avoids-at v e b l z (yes q) = rw (q, metres-tail) (tail-avoids (rw q at e) b l (ap (λ (x : Exposure). exposed x b) (sym exposed-tail) ∙ (rw q at z)))
+      avoids-at v e b l z (no n) = rw (other-metres v n) (c .avoids v e b l (ap (λ (x : Exposure). exposed x b) (sym (exposed-other v n)) ∙ z))
 
-      avoids-at : (v : ℕ) → reachedAt (s .entries) v ≡ true → (b : ℕ) → b < hazards → exposed (getD (set (s .exposures) (a .tail) (exposureOver s a)) v toNothing) b ≡ 0 → Dec (v ≡ a .tail)
-          → Avoids arcs terminal v b (getD (set (s .entries) (a .tail) new) v unreached .metres)
-      avoids-at v e b l z (yes q) = rw (metres-tail q, q)
-          (tail-avoids (ap (reachedAt (s .entries)) (sym q) ∙ e) b l
-          (ap (λ (x : Exposure). exposed x b) (sym (getD-set-same (s .exposures) (a .tail) (exposureOver s a) toNothing in-exposures))
-          ∙ (ap (λ (u : ℕ). exposed (getD (set (s .exposures) (a .tail) (exposureOver s a)) u toNothing) b) (sym q) ∙ z)))
-      avoids-at v e b l z (no n) = rw (other-metres v n) (c .avoids v e b l (ap (λ (x : Exposure). exposed x b) (sym (other-exposure v n)) ∙ z))
-
-      within-at : (v : ℕ) → Dec (v ≡ a .tail) → getD (set (s .entries) (a .tail) new) v unreached .metres ≤ max reach (metresAt plain v)
-      within-at v (yes q) = rw (metres-tail q, q) (omega (arith, c .within (a .tail)))
+      within-at : (v : ℕ) → Dec (v ≡ a .tail) → metresAt (clearedBy s a far .entries) v ≤ max reach (metresAt plain v)
+      within-at v (yes q) = rw (q, metres-tail) (omega (arith, c .within (a .tail)))
       within-at v (no n) = rw (other-metres v n) (c .within v)
 
-      clear-at : Dec (terminal ≡ a .tail) → getD (set (s .exposures) (a .tail) (exposureOver s a)) terminal toNothing ≡ toNothing
-      clear-at (yes q) =
-          let none : exposureAt s (a .tail) ≡ toNothing = ap (exposureAt s) (sym q) ∙ c .terminal-clear in
-          ap (λ (u : ℕ). getD (set (s .exposures) (a .tail) (exposureOver s a)) u toNothing) q
-          ∙ (getD-set-same (s .exposures) (a .tail) (exposureOver s a) toNothing in-exposures ∙ nothing-common _ _ none)
-      clear-at (no n) = other-exposure terminal n ∙ c .terminal-clear
+      clear-at : Dec (terminal ≡ a .tail) → exposureAt (clearedBy s a far) terminal ≡ toNothing
+      clear-at (yes q) = ap (exposureAt (clearedBy s a far)) q ∙ (exposed-tail ∙ nothing-common _ _ (ap (exposureAt s) (sym q) ∙ c .terminal-clear))
+      clear-at (no n) = exposed-other terminal n ∙ c .terminal-clear
 
 -- ---- from arc to arc
 
@@ -252,19 +261,10 @@ module _ (arcs : List Arc) where
       s′ = clearedBy s gone far
 
       exposed-tail : exposureAt s′ (gone .tail) ≡ exposureOver s gone
-      unfolding clearedBy
-      exposed-tail = getD-set-same (s .exposures) (gone .tail) (exposureOver s gone) toNothing (omega (arith, sound .tail-node, sizes .1))
+      exposed-tail = cleared-exposure s gone far sizes (sound .tail-node)
 
       exposed-other : (v : ℕ) → (v ≡ gone .tail → ⊥) → exposureAt s′ v ≡ exposureAt s v
-      unfolding clearedBy
-      exposed-other v n = getD-set-other (s .exposures) (gone .tail) v (exposureOver s gone) toNothing n
-
-      reached-same : (v : ℕ) → reachedAt (s′ .entries) v ≡ reachedAt (s .entries) v
-      unfolding clearedBy
-      reached-same v = elim (ℕ-discrete v (gone .tail)) [
-        | yes q ↦ rw q (ap (λ (e : Distance). e .reached) (getD-set-same (s .entries) (gone .tail) _ unreached (omega (arith, sound .tail-node, sizes .0))))
-        | no n ↦ ap (λ (e : Distance). e .reached) (getD-set-other (s .entries) (gone .tail) v _ unreached n)
-      ]
+      exposed-other = other-exposure s gone far sizes (sound .tail-node)
 
       -- no node is exposed to more
       exposed-less : (v b : ℕ) → exposed (exposureAt s′ v) b ≤ exposed (exposureAt s v) b
@@ -275,20 +275,13 @@ module _ (arcs : List Arc) where
 
       pub between-clears : Between s′ (with pending (gone .tail)) next cut
       between-clears = record {
-        few = bits-below nodes _ (λ r e. in-range r e (ℕ-discrete r (gone .tail)));
+        few = with-inside nodes pending (gone .tail) (t .few) (omega (arith, sound .tail-node));
         to = chain .to;
-        gone-over = λ e j l r. over j l (sym (reached-same _) ∙ r) e (ℕ-discrete (arcAt arcs j .head) (gone .tail)) (ℕ-discrete j k);
+        gone-over = λ e j l r. over j l (sym (cleared-reached s gone far sizes (sound .tail-node) _) ∙ r) e (ℕ-discrete (arcAt arcs j .head) (gone .tail)) (ℕ-discrete j k);
       }
         where
-          in-range : (r : ℕ) → bit (with pending (gone .tail)) r ≡ 1 → Dec (r ≡ gone .tail) → r < nodes
-          in-range r e (yes q) = omega (arith, sound .tail-node)
-          in-range r e (no n) = bit-inside nodes pending r (t .few) (sym (bit-with-other pending (gone .tail) r n) ∙ e)
-
           more : (u : ℕ) → bit pending u ≡ 1 → bit (with pending (gone .tail)) u ≡ 1
-          more u p = elim (ℕ-discrete u (gone .tail)) [
-            | yes q ↦ rw q (bit-with-same pending (gone .tail))
-            | no n ↦ bit-with-other pending (gone .tail) u n ∙ p
-          ]
+          more u p = omega (arith, bit-with pending (gone .tail) u, bit-le-one (with pending (gone .tail)) u)
 
           over : (j : ℕ) → j < length arcs → reachedAt (s .entries) (arcAt arcs j .head) ≡ true → cut ≡ false → Dec (arcAt arcs j .head ≡ gone .tail) → Dec (j ≡ k) → Due (with pending (gone .tail)) next j ⊎ Idle s′ j
           over j l r e (yes q) d = inl (head-pending (ap (bit (with pending (gone .tail))) q ∙ bit-with-same pending (gone .tail)))
@@ -313,9 +306,8 @@ clearing-over arcs terminal reach plain s k far a is h sound e l m c =
 
 -- before the first arc only the terminal is pending: every other node is exposed to all that there is
 pub between-start : (arcs : List Arc) (plain : List Distance) (terminal : ℕ) → allSound arcs ≡ true → terminal ≤ lastNode → Between arcs (startOf plain terminal) (with 0 terminal) (length arcs) false
-unfolding startOf
 between-start arcs plain terminal sound node = record {
-  few = bits-below nodes _ (λ r e. in-range r e (ℕ-discrete r terminal));
+  few = with-inside nodes 0 terminal (omega arith) (omega arith);
   to = omega arith;
   gone-over = λ e j l r. elim (ℕ-discrete (arcAt arcs j .head) terminal) [
     | yes q ↦ inl (head-pending (ap (bit (with 0 terminal)) q ∙ bit-with-same 0 terminal))
@@ -323,23 +315,13 @@ between-start arcs plain terminal sound node = record {
   ];
 }
   where
-    in-range : (r : ℕ) → bit (with 0 terminal) r ≡ 1 → Dec (r ≡ terminal) → r < nodes
-    in-range r e (yes q) = omega arith
-    in-range r e (no n) = absurd (omega (arith, e, bit-with-other 0 terminal r n, bit-empty r))
-
-    first-all : (v : ℕ) → v ≤ lastNode → (v ≡ terminal → ⊥) → getD (set (replicate nodes toAll) terminal toNothing) v toNothing ≡ toAll
-    first-all v h n = getD-set-other (replicate nodes toAll) terminal v toNothing toNothing n ∙ getD-replicate nodes v toAll toNothing (omega arith)
-
-    first-none : getD (set (replicate nodes toAll) terminal toNothing) terminal toNothing ≡ toNothing
-    first-none = getD-set-same (replicate nodes toAll) terminal toNothing toNothing (omega (arith, length-replicate nodes toAll))
-
     all-exposed : (j : ℕ) → j < length arcs → (arcAt arcs j .head ≡ terminal → ⊥) → Idle arcs (startOf plain terminal) j
     all-exposed j l n b =
         let arc = sound-at arcs sound j l in
-        let at-head = first-all (arcAt arcs j .head) (arc .head-node) n in
+        let at-head = start-all plain terminal node (arcAt arcs j .head) (omega (arith, arc .head-node)) n in
         elim (ℕ-discrete (arcAt arcs j .tail) terminal) [
-          | yes q ↦ rw (q, at-head, first-none) (omega (arith, exposed-nothing b))
-          | no m ↦ rw (first-all (arcAt arcs j .tail) (arc .tail-node) m, at-head) (omega arith)
+          | yes q ↦ rw (q, at-head, start-none plain terminal node) (omega (arith, exposed-nothing b))
+          | no m ↦ rw (start-all plain terminal node (arcAt arcs j .tail) (omega (arith, arc .tail-node)) m, at-head) (omega arith)
         ]
 
 -- ---- the end of it

@@ -17,7 +17,7 @@ use Rattle.floor.specs.declared.Ways.{Ways}
 abbrev pub exposureAt : Ways → ℕ → Exposure
 exposureAt s v = getD (s .exposures) v toNothing
 
--- before any round: nothing is known to be avoided, but everything at the terminal
+-- before any arc: nothing is known to be avoided, but everything at the terminal
 unfoldable pub startOf : (plain : List Distance) (terminal : ℕ) → Ways
 startOf plain terminal = record { entries = plain; exposures = set (replicate nodes toAll) terminal toNothing }
 

@@ -3,6 +3,7 @@ use mathlib.Core.Path.{_≡_, refl, sym, ap, _∙_}
 use mathlib.Core.Bool.{Bool, true, false}
 use Prim.Native.Nat.{ℕ, zero, suc, _+_, _*_, _-_, _/_, _%_, _^_, _≤_, _<_, min, max}
 use native.Mathlib.Nat.{le-refl, lt-of-lt-of-le, mul-assoc, pow-suc, pow-succ', div-one, div-div-eq-div-mul, div-lt-iff-lt-mul, not-suc-le-zero}
+use native.Mathlib.Decide.{ℕ-discrete}
 use native.Mathlib.Omega.{arith}
 use lib.Arith.{lt-one}
 use lib.Bits.{bitAnd, bitOr, and-step, or-step, and-shr, or-shr, and-le-l, and-le-r, and-self, or-add-and}
@@ -132,6 +133,14 @@ bits-below d x f = go (ltb x (2 ^ d)) refl
     go : (b : Bool) → ltb x (2 ^ d) ≡ b → x < 2 ^ d
     go true e = ltb-true x (2 ^ d) e
     go false e = let past = element-past d x (ltb-false x (2 ^ d) e) in absurd (omega (arith, past .from, f (past .place) (past .is-in)))
+
+-- a set of numbers below d, and one more of these
+pub with-inside : (d s h : ℕ) → s < 2 ^ d → h < d → with s h < 2 ^ d
+with-inside d s h few l = bits-below d (with s h) (λ r e. at r e (ℕ-discrete r h))
+  where
+    at : (r : ℕ) → bit (with s h) r ≡ 1 → Dec (r ≡ h) → r < d
+    at r e (yes q) = omega arith
+    at r e (no n) = bit-inside d s r few (sym (bit-with-other s h r n) ∙ e)
 
 -- a set below a power of two, and another from there on
 twice-power : (d y : ℕ) → 2 ^ suc d * y ≡ 2 * (2 ^ d * y)

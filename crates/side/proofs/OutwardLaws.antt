@@ -7,9 +7,7 @@ use Prim.Native.Nat.{ℕ, _-_, _^_, _≤_, _<_, max}
 use native.Mathlib.Decide.{ℕ-discrete}
 use native.Mathlib.Omega.{arith}
 use lib.Bits.{bitOr}
-use lib.Dec.{ltb}
-use lib.ListN.{length, List·getD-eq-default}
-use borrow.Author.Tests.{ltb-true, ltb-false}
+use lib.ListN.{length}
 use Rattle.laws.specs.Sets.{bit, with, without, unmet}
 use Rattle.laws.proofs.SetLaws.{bit-empty, bit-le-one, bit-or, bit-with, bit-with-same, bit-with-other, bit-without, bits-below, unmet-with}
 use Rattle.problem.specs.declared.Arc.{Arc}
@@ -17,8 +15,9 @@ use Rattle.problem.specs.declared.Exposure.{Exposure}
 use Rattle.problem.specs.Table.{lastNode, nodes, SoundArc}
 use Rattle.problem.specs.Routes.{arcAt}
 use Rattle.side.specs.declared.Distance.{Distance}
-use Rattle.side.specs.Side.{unreached, entryAt, reachedAt, metresAt, SideTable}
+use Rattle.side.specs.Side.{entryAt, reachedAt, metresAt, SideTable}
 use Rattle.side.specs.Relaxing.{startOf, Nearest, finishedIn, tailsInto}
+use Rattle.side.proofs.StoreLaws.{reached-inside}
 use Rattle.side.proofs.RelaxLaws.{gains, gains-unreached, gains-stays}
 use Rattle.side.proofs.FairLaws.{Fair, start-terminal, start-other, start-fair, settled-table}
 use Rattle.side.proofs.MovedLaws.{Moved, moved-stays, moved-lower, Relaxed, relaxed-all}
@@ -61,13 +60,7 @@ module _ (arcs : List Arc) (terminal : ℕ) (banned : Exposure) where
   module _ (s : List Distance) (finished opened : ℕ) (o : Outward s finished opened) where
     -- only nodes are reached, and so only nodes are open
     reached-node : (u : ℕ) → reachedAt s u ≡ true → u < nodes
-    reached-node u e = go (ltb u nodes) refl
-      where
-        go : (b : Bool) → ltb u nodes ≡ b → u < nodes
-        go true l = ltb-true u nodes l
-        go false l =
-            let past = List·getD-eq-default s unreached {n = u} (omega (arith, o .fair .small .entries-size, ltb-false u nodes l)) in
-            absurd (false≢true (sym (ap (λ (d : Distance). d .reached) past) ∙ e))
+    reached-node u e = omega (arith, reached-inside s u e, o .fair .small .entries-size)
 
     pub open-nodes : opened < 2 ^ nodes
     open-nodes = bits-below nodes opened (λ u e. reached-node u (o .open-reached u e))

@@ -1,14 +1,21 @@
--- A list of entries after one store: how many are reached. Assumes nothing.
-use mathlib.Core.Path.{_≡_, ap}
-use mathlib.Core.Bool.{Bool, true, false}
+-- A list of entries: only nodes that it has are reached, and after one store, how many. Assumes nothing.
+use mathlib.Core.Path.{_≡_, sym, ap, _∙_}
+use mathlib.Core.Bool.{Bool, true, false, false≢true}
 use mathlib.Core.List.{List, [], _∷_}
 use Prim.Native.Nat.{ℕ, zero, suc, _+_, _≤_, _<_}
 use native.Mathlib.Nat.{not-suc-le-zero, le-of-suc-le-suc}
+use native.Mathlib.Decide.{decLt}
 use native.Mathlib.Omega.{arith}
-use lib.ListN.{length, getD, set}
+use lib.ListN.{length, getD, set, List·getD-eq-default}
 use Rattle.laws.proofs.SetLaws.{digit}
 use Rattle.side.specs.declared.Distance.{Distance}
-use Rattle.side.specs.Side.{unreached}
+use Rattle.side.specs.Side.{unreached, reachedAt}
+
+pub reached-inside : (l : List Distance) (v : ℕ) → reachedAt l v ≡ true → v < length l
+reached-inside l v e = elim (decLt v (length l)) [
+  | yes h ↦ h
+  | no h ↦ absurd (false≢true (sym (ap (λ (x : Distance). x .reached) (List·getD-eq-default l unreached {n = v} (omega arith))) ∙ e))
+]
 
 -- how many nodes are reached
 unfoldable pub count : List Distance → ℕ

@@ -41,7 +41,7 @@ at-test l =
     let owned = s .good .1 .1 .1 .0 in
     l .loop .inv .2 (s .args .plain)
     (subst (Clearing (arcsOf (s .args .table .now)) (s .args .q .terminal) (s .args .q .reach) (s .args .plain)) (sym (l .before .before .before .start .ensures))
-    (clearing-start _ _ _ _ (owned .1 .0 .1) (s .pre .0 .0 .terminal-node)))
+    (clearing-start _ _ (s .pre .0 .0 .terminal-node) _ _ (owned .1 .0 .1)))
 
 loop-holds : tie.Need-loop-holds Inv-loop μ-loop
 loop-holds c =
