@@ -3,7 +3,7 @@
 // A case is six 32-bit little-endian numbers (table length, reply length, source, terminal, reach, allowance), then the table.
 // Where spans are closed, the closed set's 16 bytes are the last of the table, and the planner alone reads such cases.
 // A program is called `PROGRAM REPEAT < cases`. It prints the mean nanoseconds of a case, then a line for each case:
-// shared count, total metres, mains tried, and 0 settled or 1 stopped.
+// shared count, total metres, mains tried, and 0 settled or 1 stopped. Where no pair is apart these are 0, 0, 0, and 14 or 15.
 #pragma once
 #include "clock.h"
 #include <cstdint>
@@ -17,7 +17,7 @@ struct Case {
 };
 
 struct Answer {
-    uint64_t shared, total, ranked, stopped;
+    uint64_t shared, total, ranked, number;
 };
 
 const size_t RECORD = 16;
@@ -66,6 +66,6 @@ int time_all(char **words, Ready ready, Answering answer) {
         for (size_t i = 0; i < inputs.size(); i++) answers[i] = answer(inputs[i]);
     std::chrono::duration<double, std::nano> spent = std::chrono::processor_clock::now() - begin;
     printf("%.0f\n", spent.count() / repeat / inputs.size());
-    for (auto &a : answers) printf("%lu %lu %lu %lu\n", a.shared, a.total, a.ranked, a.stopped);
+    for (auto &a : answers) printf("%lu %lu %lu %lu\n", a.shared, a.total, a.ranked, a.number);
     return 0;
 }

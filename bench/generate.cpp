@@ -14,6 +14,11 @@
 //   generate cables PARALLEL COUNT               31 hops one behind the other, so many parallel cables each, one of 64 risks a cable
 //   generate exposed COUNT                       128 arcs; 64 risks, on average 8 an arc
 //
+// and meshes on which buildings, and not risks, are scarce:
+//
+//   generate halves GATES COUNT ALLOWANCE        128 arcs; 40 risks, 1 an arc; two halves that only so many nodes join, source in the one and
+//                                                terminal in the other
+//
 // `generate spans KIND..` makes the same cases with span numbers: one for each pair of nodes that arcs join, whichever way these lead.
 // Without that word every span number is zero.
 //
@@ -297,6 +302,22 @@ void exposed(int count) {
     }
 }
 
+// Two halves, each a ring with chords, and between them gates, each joined with three nodes of either half: every route meets one gate or more.
+void halves(int gates, int count, uint32_t allowance) {
+    const int half = (NODES - gates) / 2, first_gate = 2 * half;
+    for (int seed = 0; seed < count; seed++) {
+        Dice dice{uint64_t(45000 + 100 * gates + seed)};
+        Spans spans, gated;
+        for (int gate = first_gate; gate < first_gate + gates; gate++)
+            for (int i = 0; i < 6; i++) gated.push_back({int(dice.below(half)) + (i < 3 ? 0 : half), gate});
+        for (auto [a, b] : random_spans(dice, half, (TRADE_SPANS - gated.size()) / 2)) spans.push_back({a, b});
+        for (auto [a, b] : random_spans(dice, half, (TRADE_SPANS - gated.size()) / 2)) spans.push_back({a + half, b + half});
+        spans.insert(spans.end(), gated.begin(), gated.end());
+        auto table = random_table(dice, spans, seed % DISTRIBUTIONS, 40, 1);
+        put_case({0, uint32_t(half + half / 2), NO_REACH_LIMIT, allowance, table});
+    }
+}
+
 int main(int, char **words) {
     if (words[1] == std::string("spans")) numbered = true, words++;
     if (words[1] == std::string("closed") || words[1] == std::string("open")) {
@@ -314,4 +335,5 @@ int main(int, char **words) {
     if (kind == "ring") ring(word(2));
     if (kind == "cables") cables(word(2), word(3));
     if (kind == "exposed") exposed(word(2));
+    if (kind == "halves") halves(word(2), word(3), word(4));
 }

@@ -3,9 +3,10 @@
  * A case: 32-bit little-endian numbers, then the bytes of each of its inputs. The first number is the kind: 0 is a
  * plan, and table length, reply length, source, terminal, reach and allowance follow; 1 is a mend, and input length,
  * table size and list size follow; 2 is a plan around closed arcs, and the same follows as for a plan, with the closed
- * set's length behind the table's. An answer: the numbers returned, 32 bits each (one by a plan of either kind; number,
- * table length and list length by a mend), then each whole output buffer as the call left it. An answer is flushed
- * before the next case is read, so a reader who misses one knows which case ended the driver.
+ * set's length behind the table's; 3 is a plan of a pair apart, and the same follows as for 2. An answer: the numbers
+ * returned, 32 bits each (one by a plan of any kind; number, table length and list length by a mend), then each whole
+ * output buffer as the call left it. An answer is flushed before the next case is read, so a reader who misses one
+ * knows which case ended the driver.
  *
  * Each case is called in three rounds: with each buffer ending exactly at a page without access, with each beginning
  * exactly after one, and with each at an odd address, or NULL where it is empty. One byte read or written outside them
@@ -87,7 +88,15 @@ static void plan_around(void)
                                        fields[3], fields[4], fields[5], fields[6]);
 }
 
-enum { PLAN, MEND, AROUND, KINDS };
+static void plan_apart(void)
+{
+    const struct buffer *table = &buffers[0], *closed = &buffers[1], *reply = &buffers[2];
+
+    numbers[0] = feshangul_plan_apart(table->at, table->length, closed->at, closed->length, reply->at, reply->length,
+                                      fields[3], fields[4], fields[5], fields[6]);
+}
+
+enum { PLAN, MEND, AROUND, APART, KINDS };
 
 static const struct kind {
     size_t inputs, buffers, fields, numbers; /* how many it has; the inputs are among the buffers */
@@ -97,6 +106,7 @@ static const struct kind {
     [PLAN] = { 1, 2, 6, 1, { "the table", "the reply" }, plan },
     [MEND] = { 1, 3, 3, 3, { "the input", "the table", "the list" }, mend },
     [AROUND] = { 2, 3, 7, 1, { "the table", "the closed set", "the reply" }, plan_around },
+    [APART] = { 2, 3, 7, 1, { "the table", "the closed set", "the reply" }, plan_apart },
 };
 
 static const struct kind *kind; /* of the case at hand */
@@ -347,8 +357,8 @@ int main(void)
         null_calls += (unsigned long)has_empty_buffer();
         write_answer();
     }
-    fprintf(stderr, "driver: %lu plans, %lu plans around closed arcs, %lu mends, %lu calls (%lu with NULL), no byte "
-            "touched outside the buffers, at most %zu of %d bytes of stack used\n", of_kind[PLAN], of_kind[AROUND],
-            of_kind[MEND], calls, null_calls, stack_used(), STACK);
+    fprintf(stderr, "driver: %lu plans, %lu plans around closed arcs, %lu plans of a pair apart, %lu mends, %lu calls "
+            "(%lu with NULL), no byte touched outside the buffers, at most %zu of %d bytes of stack used\n",
+            of_kind[PLAN], of_kind[AROUND], of_kind[APART], of_kind[MEND], calls, null_calls, stack_used(), STACK);
     return 0;
 }

@@ -1,11 +1,13 @@
 /* A C host in small: writes a span table (mesh A of the rules, each arc in a span of its own), asks for a pair from
- * node 0 to node 3, and prints it in words; asks for one while arc 1 is closed for works; then asks once more with an
- * arc that is too long, and prints the refusal; then mends that table, prints what is lost, and plans with what is
- * left; then asks with an arc whose risks nobody listed, which is refused and not mended. Build it with the release:
- * cc -std=c99 -I release host/example.c release/libfeshangul.a */
+ * node 0 to node 3, and prints it in words; asks for one while arc 1 is closed for works; asks for one that meets in no
+ * node between the ends, and once more while arc 1 is closed, when there is none, and prints where all routes meet; then
+ * asks with an arc that is too long, and prints the refusal; then mends that table, prints what is lost, and plans with
+ * what is left; then asks with an arc whose risks nobody listed, which is refused and not mended. Build it with the
+ * release: cc -std=c99 -I release host/example.c release/libfeshangul.a */
 #include "feshangul.h"
 
 #include <stdio.h>
+#include <string.h>
 
 #define RISK(r) (UINT64_C(1) << (r))
 
@@ -94,6 +96,12 @@ static void print_refusal(uint32_t number)
     case FESHANGUL_ARC_RISKS_BLANK:
         printf("refused: arc %lu has no risk listed; ask what it goes through\n", arc);
         break;
+    case FESHANGUL_NONE_APART:
+        printf("refused: any two routes meet between the ends, or are the same arc\n");
+        break;
+    case FESHANGUL_NONE_APART_YET:
+        printf("refused: no main within the allowance has a standby that it does not meet; ask with a larger one\n");
+        break;
     default:
         printf("refused %lu; feshangul.h says what to do\n", (unsigned long)number);
     }
@@ -130,6 +138,36 @@ static uint32_t plan_around_and_print(const uint8_t *table, size_t table_len, ui
                                             TERMINAL, REACH, ALLOWANCE);
     printf("arc %lu closed\n", (unsigned long)arc);
     print_answer(table, reply, number);
+    return number;
+}
+
+/* Prints the nodes between the ends that lie on every route: without the arcs into one of them there is no route. */
+static void print_nodes_on_every_route(const uint8_t *table, size_t table_len, const uint8_t *closed)
+{
+    for (uint32_t node = 0; node <= FESHANGUL_NODE_MAX; node++) {
+        uint8_t reply[FESHANGUL_REPLY_BYTES], without[FESHANGUL_CLOSED_BYTES];
+
+        memcpy(without, closed, sizeof without);
+        for (uint32_t arc = 0; arc < table_len / FESHANGUL_ARC_BYTES; arc++)
+            if (table[arc * FESHANGUL_ARC_BYTES + FESHANGUL_ARC_HEAD] == node)
+                feshangul_close(without, arc);
+        if (node != TERMINAL && feshangul_plan_around(table, table_len, without, sizeof without, reply, sizeof reply,
+                                                      SOURCE, TERMINAL, REACH, 1) == FESHANGUL_NO_ROUTE)
+            printf("on every route: node %lu\n", (unsigned long)node);
+    }
+}
+
+/* For a pair that meets in no node between the ends. */
+static uint32_t plan_apart_and_print(const uint8_t *table, size_t table_len, const uint8_t *closed)
+{
+    uint8_t reply[FESHANGUL_REPLY_BYTES];
+    uint32_t number = feshangul_plan_apart(table, table_len, closed, FESHANGUL_CLOSED_BYTES, reply, sizeof reply,
+                                           SOURCE, TERMINAL, REACH, ALLOWANCE);
+
+    printf("apart\n");
+    print_answer(table, reply, number);
+    if (number == FESHANGUL_NONE_APART)
+        print_nodes_on_every_route(table, table_len, closed);
     return number;
 }
 
@@ -173,11 +211,17 @@ int main(void)
     int planned = plan_and_print(table, sizeof table) == FESHANGUL_SETTLED;
     int around = plan_around_and_print(table, sizeof table, 1) == FESHANGUL_SETTLED;
 
+    uint8_t closed[FESHANGUL_CLOSED_BYTES] = { 0 };
+    int apart = plan_apart_and_print(table, sizeof table, closed) == FESHANGUL_SETTLED;
+    feshangul_close(closed, 1);
+    printf("arc 1 closed\n");
+    int none_apart = plan_apart_and_print(table, sizeof table, closed) == FESHANGUL_NONE_APART;
+
     put_arc(table, 2, 0, 2, 13, FESHANGUL_ARC_METRES_MAX + 1, RISK(2));
     int refused = feshangul_reason(plan_and_print(table, sizeof table)) == FESHANGUL_ARC_METRES_RANGE;
     int mended = mend_and_plan(table, sizeof table) == FESHANGUL_SETTLED;
 
     put_arc(table, 2, 0, 2, 13, 4000, 0);
     int blank = feshangul_reason(plan_and_print(table, sizeof table)) == FESHANGUL_ARC_RISKS_BLANK;
-    return planned && around && refused && mended && blank ? 0 : 1;
+    return planned && around && apart && none_apart && refused && mended && blank ? 0 : 1;
 }

@@ -71,6 +71,7 @@ static void test_numbers(void)
     HOLD(feshangul_reason(FESHANGUL_CLOSED_FAULT) == FESHANGUL_CLOSED_FAULT);
     HOLD(feshangul_reason(FESHANGUL_STOPPED) == FESHANGUL_STOPPED);
     HOLD(feshangul_reason(FESHANGUL_NO_ROUTE) == FESHANGUL_NO_ROUTE);
+    HOLD(feshangul_reason(FESHANGUL_NONE_APART) == 14 && feshangul_reason(FESHANGUL_NONE_APART_YET) == 15);
     HOLD(feshangul_reason(20) == FESHANGUL_ARC_NODE_RANGE && feshangul_faulty_arc(20) == 0);
     HOLD(feshangul_reason(277) == FESHANGUL_ARC_ENDS_EQUAL && feshangul_faulty_arc(277) == 1);
     HOLD(feshangul_reason(5398) == FESHANGUL_ARC_METRES_RANGE && feshangul_faulty_arc(5398) == 21);

@@ -4,7 +4,8 @@
  * This header is all that a C or C++ host includes. Fill a span table, call feshangul_plan, look at the number it
  * returns, and where that is 0 or 1 read the reply with the functions at the end. host/example.c does just that.
  * A table from the field that may be faulty goes through feshangul_mend first; spans that are closed for works are
- * planned around with feshangul_plan_around.
+ * planned around with feshangul_plan_around; two routes that meet in no building but the two ends are planned with
+ * feshangul_plan_apart.
  *
  * Linux on x86-64. Link with `pkg-config --cflags --libs feshangul`, or this header's folder and libfeshangul.a; the
  * library needs memcpy and memset of its host and nothing else.
@@ -25,8 +26,8 @@
 extern "C" {
 #endif
 
-#define FESHANGUL_VERSION "0.8.0"
-#define FESHANGUL_VERSION_NUMBER 800u    /* 10,000 times the first part, and 100 times the second, and the third */
+#define FESHANGUL_VERSION "0.9.0"
+#define FESHANGUL_VERSION_NUMBER 900u    /* 10,000 times the first part, and 100 times the second, and the third */
 
 /* ---- Sizes and limits ------------------------------------------------------------------------------------- */
 
@@ -97,6 +98,21 @@ uint32_t feshangul_plan_around(const uint8_t *table, size_t table_len, const uin
                                uint8_t *reply, size_t reply_len, uint32_t source, uint32_t terminal, uint32_t reach,
                                uint32_t allowance);
 
+/* Plans as feshangul_plan_around does, among pairs that are apart: main and standby have only the two end nodes in
+ * common, and no arc. For buyers who want no building on both routes; a route is never its own standby here. Two cables
+ * between the same two nodes are two arcs, so a pair of one cable each from `source` to `terminal` is apart, and where
+ * both lie in one span that span is shared. The rest is judged among such pairs alone, but for the floor, which is that
+ * of all routes: a pair apart may have to share more, and is then settled only once every route has been tried.
+ *
+ * Where some route is within the reach and no such pair has its main within the allowance, the number returned is
+ * FESHANGUL_NONE_APART where the allowance reaches the number of routes, and FESHANGUL_NONE_APART_YET where it does not.
+ * Where the pair of feshangul_plan_around is apart, both give the same number and bytes.
+ *
+ * All else is as for feshangul_plan_around; a closed set of zeros closes nothing. */
+uint32_t feshangul_plan_apart(const uint8_t *table, size_t table_len, const uint8_t *closed, size_t closed_len,
+                              uint8_t *reply, size_t reply_len, uint32_t source, uint32_t terminal, uint32_t reach,
+                              uint32_t allowance);
+
 /* ---- The mender ------------------------------------------------------------------------------------------- */
 
 typedef struct {
@@ -153,11 +169,13 @@ static inline uint32_t feshangul_reason(uint32_t number) { return number % 256u;
  * beginning. */
 static inline uint32_t feshangul_faulty_arc(uint32_t number) { return number / 256u; }
 
-/* Settled. Use the pair: it is the first of all pairs of routes, and a larger allowance gives the same reply. */
+/* Settled. Use the pair: it is the first of all pairs of routes, and a larger allowance gives the same reply. Of
+ * feshangul_plan_apart: the first of all that are apart. */
 #define FESHANGUL_SETTLED 0u
 
 /* Stopped. The allowance ended before the pair could be called final; it is the first of the pairs whose main was
- * tried. Use it as it is, or ask again with a larger allowance: that never gives a worse pair. */
+ * tried, of feshangul_plan_apart of those that are apart. Use it as it is, or ask again with a larger allowance: that
+ * never gives a worse pair. */
 #define FESHANGUL_STOPPED 1u
 
 /* The table is too long. Leave out arcs that cannot matter, so that FESHANGUL_ARCS_MAX remain. Of feshangul_mend: the
@@ -201,13 +219,24 @@ static inline uint32_t feshangul_faulty_arc(uint32_t number) { return number / 2
  * it as it is. */
 #define FESHANGUL_ARC_RISKS_BLANK 24u
 
-/* Only returned by feshangul_plan_around: the closed set is not FESHANGUL_CLOSED_BYTES long, or closes an arc that the
- * table does not have. See whether it was made for another table, or before arcs were taken out of this one. */
+/* Never returned by feshangul_plan: the closed set is not FESHANGUL_CLOSED_BYTES long, or closes an arc that the table
+ * does not have. See whether it was made for another table, or before arcs were taken out of this one. */
 #define FESHANGUL_CLOSED_FAULT 16u
 
 /* No route leads from source to terminal within the reach, over open arcs. Tell the customer, or ask with a larger
  * reach. */
 #define FESHANGUL_NO_ROUTE 10u
+
+/* Only returned by feshangul_plan_apart: no two routes within the reach are apart, and the allowance reaches the number
+ * of routes, so no larger one changes this. Tell the customer, who may take the pair of feshangul_plan_around, or ask
+ * with a larger reach. A node on every route is one without which there is no route: close all arcs into it and ask
+ * feshangul_plan_around, which then returns FESHANGUL_NO_ROUTE. */
+#define FESHANGUL_NONE_APART 14u
+
+/* Only returned by feshangul_plan_apart: none of the mains that the allowance let it try has a standby apart, and there
+ * are more routes than that. Ask again with a larger allowance: that gives a pair, FESHANGUL_NONE_APART or this again;
+ * from the number of routes on it is no longer this. */
+#define FESHANGUL_NONE_APART_YET 15u
 
 /* Only printed by the program `routes`, never returned by a call: its input does not begin with a request.
  * Mend whatever wrote the input. */
@@ -304,7 +333,8 @@ static inline uint32_t feshangul_is_closed(const uint8_t *closed, uint32_t arc)
 
 /* ---- Readers of a reply -------------------------------------------------------------------------------------
  *
- * Each takes the buffer that feshangul_plan or feshangul_plan_around has written with number 0 or 1. */
+ * Each takes the buffer that feshangul_plan, feshangul_plan_around or feshangul_plan_apart has written with number 0
+ * or 1. */
 
 /* FESHANGUL_SETTLED or FESHANGUL_STOPPED */
 static inline uint32_t feshangul_verdict(const uint8_t *reply) { return reply[FESHANGUL_REPLY_VERDICT]; }

@@ -6,10 +6,11 @@ use std::process::{Child, Command, Stdio};
 use std::thread;
 use std::time::Duration;
 
-/// What the driver calls a plan, a mend and a plan around closed arcs.
+/// What the driver calls a plan, a mend, a plan around closed arcs and a plan of a pair apart.
 const PLAN: u32 = 0;
 pub const MEND: u32 = 1;
 const AROUND: u32 = 2;
+const APART: u32 = 3;
 
 /// A call that the driver can make.
 pub trait Call: Sync {
@@ -29,7 +30,11 @@ impl Call for Case {
 
     fn numbers(&self) -> Vec<u32> {
         let r = &self.request;
-        let mut numbers = vec![if self.closed.is_some() { AROUND } else { PLAN }];
+        let mut numbers = vec![match (self.apart, &self.closed) {
+            (true, _) => APART,
+            (false, Some(_)) => AROUND,
+            (false, None) => PLAN,
+        }];
         numbers.extend(self.inputs().iter().map(|input| input.len() as u32));
         numbers.extend([self.reply_len as u32, r.source, r.terminal, r.reach, r.allowance]);
         numbers

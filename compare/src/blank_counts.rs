@@ -50,6 +50,7 @@ impl PlanBlanks {
                 self.add_length(arcs[*number as usize / 256].metres);
             }
             Answer::Refused(number) => self.add_behind(&arcs, *number),
+            Answer::Unpaired(..) => (),
             Answer::Planned(plan, reply) => self.add_planned(&arcs, plan, reply),
         }
     }

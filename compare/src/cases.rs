@@ -1,15 +1,16 @@
 //! The cases that 01 works by hand, with what it or a later request says of each; and a few rows more.
 
+use crate::apart_cases;
+use crate::listing::REPLY_BYTES;
 use crate::listing::{answer, answer_to_input, printed, ALLOWANCE_MAX, METRES_MAX, REACH_MAX};
-use crate::listing::{CLOSED_BYTES, REPLY_BYTES};
-use crate::mesh::{from_paper, table_bytes, Arc, Case, Request};
+use crate::mesh::{from_paper, table_bytes, Arc, Case, Request, CLOSED_BYTES};
 
-const MESH_A: &str = "0: 0,1,1000,{0}; 1: 1,3,4000,{1}; 2: 0,2,4000,{2}; 3: 2,3,1000,{3}; 4: 1,2,1000,{4}";
-const MESH_B: &str = "0: 0,3,1000,{0,1,2}; 1: 0,1,1000,{0}; 2: 0,2,1000,{1,2}; 3: 2,1,1000,{3}; 4: 1,3,1000,{1,2}";
-const MESH_C: &str = "0: 0,1,1000,{0}; 1: 0,1,1000,{1}";
-const ARC_D1: &str = "0: 0,1,1000,{0}";
-const ARC_D2: &str = "0: 0,1,1000,{}";
-const ARC_E2: &str = "0: 0,1,0,{}";
+pub const MESH_A: &str = "0: 0,1,1000,{0}; 1: 1,3,4000,{1}; 2: 0,2,4000,{2}; 3: 2,3,1000,{3}; 4: 1,2,1000,{4}";
+pub const MESH_B: &str = "0: 0,3,1000,{0,1,2}; 1: 0,1,1000,{0}; 2: 0,2,1000,{1,2}; 3: 2,1,1000,{3}; 4: 1,3,1000,{1,2}";
+pub const MESH_C: &str = "0: 0,1,1000,{0}; 1: 0,1,1000,{1}";
+pub const ARC_D1: &str = "0: 0,1,1000,{0}";
+pub const ARC_D2: &str = "0: 0,1,1000,{}";
+pub const ARC_E2: &str = "0: 0,1,0,{}";
 
 /// A case with what is said of it: facts in the words of `Answer::facts`, parted by semicolons.
 pub struct Worked {
@@ -25,12 +26,13 @@ pub struct WorkedText {
     pub text: String,
 }
 
-fn request(source: u32, terminal: u32, reach: u32, allowance: u32) -> Request {
+pub fn request(source: u32, terminal: u32, reach: u32, allowance: u32) -> Request {
     Request { source, terminal, reach, allowance }
 }
 
-fn worked(name: &'static str, arcs: &[Arc], request: Request, said: &'static str) -> Worked {
-    Worked { name, case: Case { table: table_bytes(arcs), closed: None, reply_len: REPLY_BYTES, request }, said }
+pub fn worked(name: &'static str, arcs: &[Arc], request: Request, said: &'static str) -> Worked {
+    let case = Case { table: table_bytes(arcs), closed: None, apart: false, reply_len: REPLY_BYTES, request };
+    Worked { name, case, said }
 }
 
 fn meshes() -> Vec<Worked> {
@@ -95,7 +97,7 @@ fn limits() -> Vec<Worked> {
 fn arc_21_too_long() -> Case {
     let mut arcs = vec![Arc { tail: 0, head: 1, span: 0, metres: 5, risks: 1 }; 22];
     arcs[21].metres = METRES_MAX + 1;
-    Case { table: table_bytes(&arcs), closed: None, reply_len: REPLY_BYTES, request: request(0, 1, 10_000, 1_000) }
+    worked("", &arcs, request(0, 1, 10_000, 1_000), "").case
 }
 
 /// Which arc is named, and with which of its faults. A span, the last of an arc's numbers here, is none.
@@ -489,7 +491,7 @@ fn set_but(same: u8, place: usize, bytes: &[u8]) -> Vec<u8> {
 }
 
 /// A set of arcs 0 to 7, and later ones where more bytes than one are given.
-fn set(first: &[u8]) -> Vec<u8> {
+pub fn set(first: &[u8]) -> Vec<u8> {
     set_but(0, 0, first)
 }
 
@@ -853,6 +855,7 @@ pub fn all() -> Vec<Worked> {
     rows.extend(faults_before_sets());
     rows.extend(blanks_in_mesh_a());
     rows.extend(blanks_before_sets());
+    rows.extend(apart_cases::all());
     rows
 }
 
@@ -935,8 +938,12 @@ pub fn hold_listing() -> Result<usize, String> {
         let facts = answer(&row.case).facts();
         for said in row.said.split("; ") {
             if !facts.iter().any(|fact| fact == said) {
-                let set = if row.case.closed.is_some() { ", with a closed set" } else { "" };
-                return Err(format!("{}{set}: `{said}` is said, the listing gives {}", row.name, facts.join("; ")));
+                let entry = match (row.case.apart, &row.case.closed) {
+                    (true, _) => ", apart",
+                    (false, Some(_)) => ", with a closed set",
+                    (false, None) => "",
+                };
+                return Err(format!("{}{entry}: `{said}` is said, the listing gives {}", row.name, facts.join("; ")));
             }
         }
     }

@@ -3,8 +3,8 @@
 
 use crate::blank_counts::routes_but_for_blanks;
 use crate::listing::{answer, closed_on, faults, is_of_a_blank, is_of_an_arc, Answer, Plan, Reply, Route};
-use crate::listing::{ARCS_MAX, CLOSED_BYTES, REPLY_BYTES};
-use crate::mesh::{arcs_of, is_marked, marked, Arc, Case};
+use crate::listing::{ARCS_MAX, REPLY_BYTES};
+use crate::mesh::{arcs_of, is_marked, marked, Arc, Case, CLOSED_BYTES};
 use crate::tally::{Tally, MANY};
 
 /// A bit from here on stands in the later half of a set.
@@ -31,7 +31,7 @@ fn outcome(answer: &Answer) -> (u32, Vec<u8>) {
 /// How many routes there are.
 fn routes(answer: &Answer) -> usize {
     match answer {
-        Answer::Planned(plan, _) => plan.ranking.len(),
+        Answer::Planned(plan, _) | Answer::Unpaired(plan, _) => plan.ranking.len(),
         Answer::Refused(_) => 0,
     }
 }

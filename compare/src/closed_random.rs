@@ -2,9 +2,9 @@
 //! sets that are none; and sets on damaged calls and on those with blanks, which are refused for that first.
 
 use crate::listing::{answer, faults, is_blank, is_of_a_blank, is_of_an_arc, ranking_within, Answer, Plan, Reply};
-use crate::listing::{ARCS_MAX, CLOSED_BYTES, REACH_MAX};
-use crate::mesh::{arcs_of, mark, set_of, Arc, Case, Request};
-use crate::random::{self, allowance, draw_reach, Dice};
+use crate::listing::{ARCS_MAX, REACH_MAX};
+use crate::mesh::{arcs_of, mark, set_of, Arc, Case, Request, CLOSED_BYTES};
+use crate::random::{self, allowance, draw_reach, steps, Dice};
 use crate::trade::Shape;
 
 /// So many calls in a hundred bring a closed set.
@@ -106,8 +106,8 @@ fn works(dice: &mut Dice, arcs: &[Arc], plan: &Plan, reply: &Reply) -> Vec<usize
 fn fit_request(dice: &mut Dice, case: &mut Case) {
     let endless = Request { reach: REACH_MAX, ..case.request };
     let open = ranking_within(usize::MAX, &arcs_of(&case.table), case.closed_set(), &endless);
-    let steps = draw_reach(dice, &mut case.request, open.expect("endless patience"));
-    case.request.allowance = allowance(dice, steps);
+    let within = draw_reach(dice, &mut case.request, open.expect("endless patience"));
+    case.request.allowance = allowance(dice, steps(within));
 }
 
 // ---- Sets that are none ----
@@ -135,7 +135,7 @@ fn close_on_sound(dice: &mut Dice, case: &mut Case) {
     let arcs = arcs_of(&case.table);
     let closed = match answer(case) {
         Answer::Planned(plan, reply) => works(dice, &arcs, &plan, &reply),
-        Answer::Refused(_) => scattered(dice, arcs.len()),
+        Answer::Refused(_) | Answer::Unpaired(..) => scattered(dice, arcs.len()),
     };
     let mut set = set_of(CLOSED_BYTES, &closed);
     if dice.percent(NO_LENGTH_PERCENT) {
@@ -189,9 +189,9 @@ fn close_on_blank(dice: &mut Dice, case: &mut Case) {
     close_in_vain(dice, case, arcs.len(), &closed);
 }
 
-/// A case, half of the time with a closed set, and the trade's shape that its mesh was drawn in, if any.
-pub fn case(dice: &mut Dice) -> (Case, Option<Shape>) {
-    let (mut case, shape) = random::case(dice);
+/// A case, its mesh in this shape, half of the time with a closed set.
+pub fn case(dice: &mut Dice, shape: Option<Shape>) -> Case {
+    let mut case = random::case(dice, shape);
     if dice.percent(CLOSED_PERCENT) {
         let close = match faults(&case).first() {
             None => close_on_sound,
@@ -200,5 +200,5 @@ pub fn case(dice: &mut Dice) -> (Case, Option<Shape>) {
         };
         close(dice, &mut case);
     }
-    (case, shape)
+    case
 }

@@ -6,7 +6,7 @@ use crate::mesh::{Case, ARC_BYTES};
 use crate::trade::{Shape, SHAPES};
 
 /// The numbers of refusals, in order; 9, 11 and 23 have ended, and 20 to 22 and 24 come with an arc.
-const REFUSALS: [usize; 14] = [2, 3, 4, 5, 6, 7, 8, 20, 21, 22, 24, 16, 10, 12];
+const REFUSALS: [usize; 16] = [2, 3, 4, 5, 6, 7, 8, 20, 21, 22, 24, 16, 10, 14, 15, 12];
 
 #[derive(Default)]
 pub struct Counts {

@@ -1,9 +1,9 @@
 //! A difference made small and put on paper.
 
 use crate::ask::Given;
-use crate::listing::{answer, closed_on, is_blank, Answer, Plan, CLOSED_BYTES, REPLY_BYTES};
+use crate::listing::{answer, closed_on, is_blank, Answer, Plan, REPLY_BYTES};
 use crate::mesh::{arcs_of, arcs_on_paper, marked, number, risks_on_paper, set_of, table_bytes, torn_end};
-use crate::mesh::{Arc, Case, ARC_BYTES};
+use crate::mesh::{Arc, Case, ARC_BYTES, CLOSED_BYTES};
 use std::ops::Range;
 use std::time::{Duration, Instant};
 
@@ -37,7 +37,9 @@ const REPLY_FIELDS: [(&str, usize, usize); 14] = [
 /// N and J of a case that has a plan.
 fn steps(case: &Case) -> Option<(i64, i64)> {
     match answer(case) {
-        Answer::Planned(plan, _) => Some((plan.ranking.len() as i64, plan.settled_at as i64)),
+        Answer::Planned(plan, _) | Answer::Unpaired(plan, _) => {
+            Some((plan.ranking.len() as i64, plan.settled_at as i64))
+        }
         Answer::Refused(_) => None,
     }
 }
@@ -95,11 +97,13 @@ fn cases_without_arcs(case: &Case) -> Vec<Case> {
     parts(&case.table).iter().map(without).collect()
 }
 
-/// The case without its set, with one of 16 bytes where it is longer, and with each arc opened.
+/// The case of the entry that takes any pair, where it wants one apart; without its set; with a set of 16 bytes where it
+/// is longer; and with each arc opened.
 fn cases_with_less_closed(case: &Case) -> Vec<Case> {
     let Some(set) = &case.closed else { return Vec::new() };
     let with = |set| Case { closed: Some(set), ..case.clone() };
-    let mut cases = vec![case.without_set()];
+    let mut cases: Vec<Case> = case.apart.then(|| case.of_any_pair()).into_iter().collect();
+    cases.extend([case.without_set()].into_iter().filter(|without| without.closed != case.closed));
     if set.len() > CLOSED_BYTES {
         cases.push(with(set[..CLOSED_BYTES].to_vec()));
     }
@@ -200,19 +204,17 @@ fn refusal_differences(expected: &[u8], given: &[u8]) -> String {
 fn ranking_on_paper(plan: &Plan) -> String {
     let mut text = format!("ranking, N = {}:\n", plan.ranking.len());
     for (place, route) in plan.ranking.iter().enumerate().take(ROUTES_SHOWN) {
-        let pair = &plan.best[place];
+        let best = plan.best[place].map_or("none".to_string(), |pair| {
+            format!("({}, {}), shared {}, total {}", pair.main, pair.standby, pair.shared, pair.total)
+        });
         text += &format!(
-            "  {}. {} {} m {} spans {:?}; best({}) = ({}, {}), shared {}, total {}\n",
+            "  {}. {} {} m {} spans {:?}; best({}) = {best}\n",
             place + 1,
             arcs_on_paper(&route.arcs),
             route.metres,
             risks_on_paper(route.risks),
             route.spans,
-            place + 1,
-            pair.main,
-            pair.standby,
-            pair.shared,
-            pair.total
+            place + 1
         );
     }
     if plan.ranking.len() > ROUTES_SHOWN {
@@ -225,6 +227,7 @@ fn ranking_on_paper(plan: &Plan) -> String {
 pub fn expected_on_paper(answer: &Answer) -> String {
     match answer {
         Answer::Refused(number) => format!("expected: refused {number}\n"),
+        Answer::Unpaired(plan, number) => format!("{}expected: refused {number}\n", ranking_on_paper(plan)),
         Answer::Planned(plan, reply) => format!("{}expected: {}\n", ranking_on_paper(plan), reply.facts().join("; ")),
     }
 }

@@ -1,12 +1,12 @@
 //! Document 01 and the requests read literally: every route is listed and ranked, every pair is judged, and the answer is read off.
 //! Nothing here is clever, so that it can be held against the document line by line.
 
-use crate::mesh::{arcs_of, arcs_on_paper, is_marked, marked, number, Arc, Case, Request, ARC_BYTES};
+use crate::apart;
+use crate::mesh::{arcs_of, arcs_on_paper, is_marked, marked, number, Arc, Case, Request, ARC_BYTES, CLOSED_BYTES};
 use std::ops::ControlFlow;
 
 pub const TABLE_BYTES_MAX: usize = 2_048;
 pub const ARCS_MAX: usize = TABLE_BYTES_MAX / ARC_BYTES;
-pub const CLOSED_BYTES: usize = 16;
 pub const REPLY_BYTES: usize = 96;
 pub const NODE_MAX: u32 = 31;
 pub const METRES_MAX: u32 = 2_000_000;
@@ -14,7 +14,7 @@ pub const REACH_MAX: u32 = 62_000_000;
 pub const ALLOWANCE_MAX: u32 = 1_000_000;
 const SHARED_MAX: u32 = 64 + 31;
 const REQUEST_BYTES: usize = 16;
-const ROUTE_BYTES: usize = 32;
+pub const ROUTE_BYTES: usize = 32;
 const NO_ARC: u8 = 255;
 
 // ---- Routes and their ranking ----
@@ -144,13 +144,13 @@ pub struct Pair {
 pub struct Plan {
     pub ranking: Vec<Route>,
     pub floor: u32,
-    /// best(1) to best(N)
-    pub best: Vec<Pair>,
+    /// best(1) to best(N); nothing where there is no such pair yet, which only a wish for one apart leaves open (T-05)
+    pub best: Vec<Option<Pair>>,
     /// J, the least settled step
     pub settled_at: usize,
 }
 
-fn pair(count: Count, ranking: &[Route], main: usize, standby: usize) -> Pair {
+pub fn pair(count: Count, ranking: &[Route], main: usize, standby: usize) -> Pair {
     let (p, q) = (&ranking[main - 1], &ranking[standby - 1]);
     Pair { shared: count(&[p, q]), total: p.metres + q.metres, main, standby }
 }
@@ -159,23 +159,28 @@ impl Plan {
     /// The plan over a ranking of at least one route, where so much counts as shared.
     pub fn new(ranking: Vec<Route>, count: Count) -> Plan {
         let n = ranking.len();
-        let floor = count(&ranking.iter().collect::<Vec<_>>());
         let mut best: Vec<Pair> = Vec::new();
         for main in 1..=n {
             let of_main = (1..=n).map(|standby| pair(count, &ranking, main, standby)).min().expect("a standby");
             let so_far = best.last().copied().unwrap_or(of_main);
             best.push(so_far.min(of_main));
         }
-        let settled = |j: usize| {
-            let pair = &best[j - 1];
-            j == n || (pair.shared == floor && 2 * ranking[j - 1].metres >= pair.total)
-        };
+        Plan::settling(ranking, count, best.into_iter().map(Some).collect())
+    }
+
+    /// The plan whose best pairs are these. The floor is that of all routes, and a step with no pair yet is settled only
+    /// at N, as T-05 says.
+    pub fn settling(ranking: Vec<Route>, count: Count, best: Vec<Option<Pair>>) -> Plan {
+        let n = ranking.len();
+        let floor = count(&ranking.iter().collect::<Vec<_>>());
+        let is_last = |pair: Pair, j: usize| pair.shared == floor && 2 * ranking[j - 1].metres >= pair.total;
+        let settled = |j: usize| j == n || best[j - 1].is_some_and(|pair| is_last(pair, j));
         let settled_at = (1..=n).find(|&j| settled(j)).expect("step N is settled");
         Plan { ranking, floor, best, settled_at }
     }
 
     /// Holds the listing to what 01 and the C header say of every plan; a failure is a fault of this program.
-    fn hold_to_what_is_said(&self) {
+    pub fn hold_to_what_is_said(&self) {
         // In the order of a dictionary a list stands directly before one that it is the beginning of.
         let mut lists: Vec<&[u8]> = self.ranking.iter().map(|route| &route.arcs[..]).collect();
         lists.sort();
@@ -185,12 +190,10 @@ impl Plan {
             self.ranking.iter().all(|route| route.metres == 0 || route.risks != 0),
             "a route of more than 0 metres has a risk"
         );
-        assert!(self.best.iter().all(|pair| pair.main <= pair.standby), "the main's rank never exceeds the standby's");
-        assert!(self.best.iter().all(|pair| pair.shared >= self.floor), "no pair shares fewer than the floor");
-        assert!(
-            self.best.iter().all(|pair| pair.shared <= SHARED_MAX),
-            "no pair shares more than 64 risks and 31 spans"
-        );
+        let mut best = self.best.iter().flatten();
+        assert!(best.clone().all(|pair| pair.main <= pair.standby), "the main's rank never exceeds the standby's");
+        assert!(best.clone().all(|pair| pair.shared >= self.floor), "no pair shares fewer than the floor");
+        assert!(best.all(|pair| pair.shared <= SHARED_MAX), "no pair shares more than 64 risks and 31 spans");
         assert!(
             self.best[self.settled_at - 1] == self.best[self.ranking.len() - 1],
             "a settled pair is the first of all"
@@ -210,9 +213,10 @@ pub struct Reply {
 }
 
 impl Reply {
+    /// The reply where there is a pair whose main is within the allowance.
     pub fn from_plan(plan: &Plan, allowance: u32) -> Reply {
         let ranked = plan.settled_at.min(allowance as usize);
-        let pair = plan.best[ranked - 1];
+        let pair = plan.best[ranked - 1].expect("a pair within the allowance");
         Reply {
             settled: plan.settled_at <= allowance as usize,
             shared: pair.shared,
@@ -288,20 +292,22 @@ impl Reply {
 
 pub enum Answer {
     Refused(u32),
+    /// There are routes, and no pair apart whose main is within the allowance: number 14 or 15 (T-05).
+    Unpaired(Plan, u32),
     Planned(Plan, Reply),
 }
 
 impl Answer {
     pub fn number(&self) -> u32 {
         match self {
-            Answer::Refused(number) => *number,
+            Answer::Refused(number) | Answer::Unpaired(_, number) => *number,
             Answer::Planned(_, reply) => u32::from(!reply.settled),
         }
     }
 
     pub fn facts(&self) -> Vec<String> {
         match self {
-            Answer::Refused(number) => vec![format!("refused {number}")],
+            Answer::Refused(number) | Answer::Unpaired(_, number) => vec![format!("refused {number}")],
             Answer::Planned(_, reply) => reply.facts(),
         }
     }
@@ -410,6 +416,9 @@ pub fn answer(case: &Case) -> Answer {
     if ranking.is_empty() {
         return Answer::Refused(10);
     }
+    if case.apart {
+        return apart::answer(ranking, &arcs, case.request.allowance);
+    }
     let plan = Plan::new(ranking, risks_and_spans);
     plan.hold_to_what_is_said();
     let reply = Reply::from_plan(&plan, case.request.allowance);
@@ -436,7 +445,7 @@ pub fn case_of_input(input: &[u8]) -> Option<Case> {
         reach: number(&request[4..8]) as u32,
         allowance: number(&request[8..12]) as u32,
     };
-    Some(Case { table: table.to_vec(), closed: None, reply_len: REPLY_BYTES, request })
+    Some(Case { table: table.to_vec(), closed: None, apart: false, reply_len: REPLY_BYTES, request })
 }
 
 pub fn answer_to_input(input: &[u8]) -> Answer {
@@ -448,7 +457,7 @@ pub fn answer_to_input(input: &[u8]) -> Answer {
 
 pub fn printed(answer: &Answer) -> String {
     match answer {
-        Answer::Refused(number) => format!("refused {number}\n"),
+        Answer::Refused(number) | Answer::Unpaired(_, number) => format!("refused {number}\n"),
         Answer::Planned(_, reply) => reply.text(),
     }
 }

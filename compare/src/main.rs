@@ -4,17 +4,27 @@
 //!
 //!   compare listing                        holds the listing itself to the cases that 01 works by hand, and the mender
 //!                                          here to tables mended by hand
-//!   compare calls COUNT SEED COMMAND..     compares those cases and COUNT random calls, half of them around closed
-//!                                          arcs, through the driver COMMAND
+//!   compare calls COUNT SEED COMMAND..     compares those cases and COUNT random calls, a third of them around closed
+//!                                          arcs and a third for pairs apart, through the driver COMMAND
 //!   compare long COUNT SEED COMMAND..      compares COUNT random calls on meshes with routes of 31 arcs, through the
 //!                                          driver COMMAND
+//!   compare rising COUNT SEED COMMAND..    compares calls on COUNT random meshes, each asked at rising allowances for a
+//!                                          pair apart and for any, through the driver COMMAND, and holds the answers to
+//!                                          each other
 //!   compare mends COUNT SEED COMMAND..     compares those tables and COUNT random ones, through the driver COMMAND
 //!   compare texts COUNT SEED COMMAND..     compares what the program COMMAND prints for those cases and COUNT inputs
+//!   compare bench EVERY [apart] [closed]   prints the answer to each EVERY-th of the benchmark's cases on standard input
+//!                                          that can be listed (bench/run), and `-` for the others
 //!
 //! It ends with status 1 at any difference, and prints the smallest mesh or table that it finds for the first one; and
 //! where many random cases did not meet something that they are for.
 
+mod apart;
+mod apart_cases;
+mod apart_counts;
+mod apart_random;
 mod ask;
+mod bench;
 mod blank_counts;
 mod cases;
 mod closed_counts;
@@ -30,11 +40,14 @@ mod mender_difference;
 mod mender_random;
 mod mesh;
 mod random;
+mod rising;
 mod span_counts;
 mod tally;
 mod trade;
 
+use apart_counts::PairsApart;
 use ask::{Answers, Call, Given};
+use bench::Asked;
 use blank_counts::{MendBlanks, PlanBlanks};
 use closed_counts::ClosedSets;
 use counts::Counts;
@@ -46,7 +59,9 @@ use mender_counts::MenderCounts;
 use mender_difference::{outcome_on_paper, smaller_mends};
 use mesh::Case;
 use random::Dice;
+use rising::{Relations, Rise};
 use span_counts::{MendSpans, PlanSpans};
+use std::io::Read;
 use std::process::exit;
 use std::time::Instant;
 use trade::Shape;
@@ -60,8 +75,10 @@ fn main() {
         (Some("listing"), 1) => hold_listing() && hold_mender(),
         (Some("calls"), 4..) => hold_listing() && compare_calls(whole(&words[1]), whole(&words[2]), &words[3..]),
         (Some("long"), 4..) => hold_listing() && compare_long(whole(&words[1]), whole(&words[2]), &words[3..]),
+        (Some("rising"), 4..) => hold_listing() && compare_rising(whole(&words[1]), whole(&words[2]), &words[3..]),
         (Some("mends"), 4..) => hold_mender() && compare_mends(whole(&words[1]), whole(&words[2]), &words[3..]),
         (Some("texts"), 4..) => hold_listing() && compare_texts(whole(&words[1]), whole(&words[2]), &words[3..]),
+        (Some("bench"), 2..) => answer_bench(whole(&words[1]), &words[2..]),
         _ => usage(),
     };
     exit(i32::from(!same));
@@ -69,8 +86,8 @@ fn main() {
 
 fn usage() -> ! {
     eprintln!(
-        "usage: compare listing | calls COUNT SEED DRIVER.. | long COUNT SEED DRIVER.. | mends COUNT SEED DRIVER.. | \
-         texts COUNT SEED PROGRAM.."
+        "usage: compare listing | calls COUNT SEED DRIVER.. | long COUNT SEED DRIVER.. | rising COUNT SEED DRIVER.. | \
+         mends COUNT SEED DRIVER.. | texts COUNT SEED PROGRAM.. | bench EVERY [apart] [closed]"
     );
     exit(2)
 }
@@ -99,10 +116,11 @@ fn held(what: &str, rows: Result<usize, String>) -> bool {
 
 // ---- The driver ----
 
-/// How the driver's answers compare: the place of the first that differs, and whether all is well.
+/// How the driver's answers compare: the place of the first that differs, and whether all is well; and the answers.
 struct Compared {
     first: Option<usize>,
     same: bool,
+    given: Vec<Given>,
 }
 
 /// Holds the driver's answers to what is expected at each place, and prints how many differ.
@@ -123,7 +141,8 @@ fn compare(
     let wrong = differing.len() - unanswered;
     println!("{what}: {} cases (seed {seed}), {unanswered} not answered, {wrong} answered otherwise", all.len());
     println!("  {}", answers.said);
-    Compared { first: differing.first().copied(), same: differing.is_empty() && answers.ended_well }
+    let same = differing.is_empty() && answers.ended_well;
+    Compared { first: differing.first().copied(), same, given: answers.given }
 }
 
 /// Makes a case that differs as small as it can be, and asks for that one alone.
@@ -159,16 +178,18 @@ fn expected_of(case: &Case, answer: &Answer) -> Given {
 fn compare_calls(count: u64, seed: u64, command: &[String]) -> bool {
     let mut dice = Dice::new(seed);
     let mut all: Vec<(Case, Option<Shape>)> = cases::all().into_iter().map(|row| (row.case, None)).collect();
-    all.extend((0..count).map(|_| closed_random::case(&mut dice)));
+    all.extend((0..count).map(|_| apart_random::case(&mut dice)));
     let (all, shapes): (Vec<Case>, Vec<Option<Shape>>) = all.into_iter().unzip();
     let worked = all.len() - count as usize;
 
     let (mut counts, mut spans, mut blanks) = (Counts::default(), PlanSpans::default(), PlanBlanks::default());
-    let mut closed = ClosedSets::default();
+    let (mut closed, mut apart) = (ClosedSets::default(), PairsApart::default());
     let compared = compare("calls", seed, command, &all, |place| {
         let answer = answer(&all[place]);
         counts.add(Some(&all[place]), shapes[place], &answer);
-        if place >= worked {
+        if place >= worked && all[place].apart {
+            apart.add(&all[place], &answer);
+        } else if place >= worked {
             spans.add(&all[place], &answer);
             blanks.add(&all[place], &answer);
             closed.add(&all[place], &answer);
@@ -179,10 +200,11 @@ fn compare_calls(count: u64, seed: u64, command: &[String]) -> bool {
     spans.print();
     blanks.print();
     closed.print();
+    apart.print();
     if let Some(first) = compared.first {
         show_call(command, &all[first]);
     }
-    spans.has_met_all() & blanks.has_met_all() & closed.has_met_all() && compared.same
+    spans.has_met_all() & blanks.has_met_all() & closed.has_met_all() & apart.has_met_all() && compared.same
 }
 
 fn compare_long(count: u64, seed: u64, command: &[String]) -> bool {
@@ -199,6 +221,28 @@ fn compare_long(count: u64, seed: u64, command: &[String]) -> bool {
         show_call(command, &all[first]);
     }
     long.has_met_all() && compared.same
+}
+
+fn compare_rising(count: u64, seed: u64, command: &[String]) -> bool {
+    let mut dice = Dice::new(seed);
+    let rises: Vec<Rise> = (0..count).map(|_| rising::rise(&mut dice)).collect();
+    let all: Vec<Case> = rises.concat();
+    let compared = compare("rising", seed, command, &all, |place| expected_of(&all[place], &answer(&all[place])));
+    let (mut relations, mut given, mut hold) = (Relations::default(), &compared.given[..], true);
+    for rise in rises.iter().filter(|_| compared.given.len() == all.len()) {
+        let (of_rise, others) = given.split_at(rise.len());
+        given = others;
+        if let Err((place, what)) = relations.add(rise, of_rise) {
+            println!("\nDOES NOT HOLD: {what}\n{}number {}", rise[place].on_paper(), of_rise[place].numbers[0]);
+            hold = false;
+            break;
+        }
+    }
+    relations.print();
+    if let Some(first) = compared.first {
+        show_call(command, &all[first]);
+    }
+    relations.has_met_all() && hold && compared.same
 }
 
 fn show_call(command: &[String], case: &Case) {
@@ -309,4 +353,14 @@ fn show_text(command: &[String], input: &[u8]) {
     if given == expected {
         println!("(it differs only when its input comes in pieces, or not every time)");
     }
+}
+
+// ---- The benchmark ----
+
+fn answer_bench(every: u64, words: &[String]) -> bool {
+    let given = |word: &str| words.iter().any(|given| given == word);
+    let mut cases = Vec::new();
+    std::io::stdin().read_to_end(&mut cases).expect("cases on standard input");
+    print!("{}", bench::answers(&cases, every as usize, Asked { apart: given("apart"), closed: given("closed") }));
+    true
 }

@@ -1,6 +1,7 @@
 //! Arcs, requests and cases: as bytes, and as people write them on paper (01, "Meshes worked by hand").
 
 pub const ARC_BYTES: usize = 16;
+pub const CLOSED_BYTES: usize = 16;
 /// So many arcs of a table are put on paper: one more than the longest input that is mended has.
 const ARCS_SHOWN: usize = 257;
 /// So many arcs of a closed set are put on paper: one more than a set of 16 bytes can mark.
@@ -32,6 +33,8 @@ pub struct Case {
     pub table: Vec<u8>,
     /// What a call around closed arcs brings (T-06); nothing where it is a call of the entry that knows of none.
     pub closed: Option<Vec<u8>>,
+    /// Whether it is a call of the entry that wants the pair apart (T-05), which brings a closed set as well.
+    pub apart: bool,
     pub reply_len: usize,
     pub request: Request,
 }
@@ -161,11 +164,12 @@ impl Case {
     pub fn on_paper(&self) -> String {
         let r = &self.request;
         format!(
-            "source {}, terminal {}, reach {}, allowance {}\ntable of {} bytes, reply buffer of {} bytes\n{}{}",
+            "source {}, terminal {}, reach {}, allowance {}{}\ntable of {} bytes, reply buffer of {} bytes\n{}{}",
             r.source,
             r.terminal,
             r.reach,
             r.allowance,
+            if self.apart { ", the pair apart" } else { "" },
             self.table.len(),
             self.reply_len,
             self.closed.as_ref().map_or(String::new(), |set| closed_on_paper(set)),
@@ -178,12 +182,22 @@ impl Case {
         self.closed.as_deref().unwrap_or_default()
     }
 
-    /// The same call of the entry that knows of no closed arcs.
+    /// The same call of the entry that knows of no closed arcs; of that which wants the pair apart, with none closed.
     pub fn without_set(&self) -> Case {
-        Case { closed: None, ..self.clone() }
+        Case { closed: self.apart.then(|| vec![0; CLOSED_BYTES]), ..self.clone() }
     }
 
-    /// What the program `routes` reads, where the request fits its record and no closed set comes with it.
+    /// The same call of the entry that takes any pair.
+    pub fn of_any_pair(&self) -> Case {
+        Case { apart: false, ..self.clone() }
+    }
+
+    pub fn with_allowance(&self, allowance: u32) -> Case {
+        Case { request: Request { allowance, ..self.request }, ..self.clone() }
+    }
+
+    /// What the program `routes` reads, where the request fits its record and neither a closed set nor the wish for a
+    /// pair apart comes with it.
     pub fn input(&self) -> Option<Vec<u8>> {
         let r = &self.request;
         if r.source > 255 || r.terminal > 255 || self.closed.is_some() {

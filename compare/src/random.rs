@@ -352,7 +352,10 @@ fn mesh(dice: &mut Dice, shape: Option<Shape>) -> (Vec<Arc>, u32, u32) {
     lengths(dice, &mut arcs);
     match shape {
         None => risks(dice, &mut arcs),
-        Some(shape) => shape.risks(dice, &mut arcs),
+        Some(shape) => {
+            shape.lay_lengths(&mut arcs);
+            shape.risks(dice, &mut arcs);
+        }
     }
     if dice.percent(50) {
         pair_directions(&mut arcs);
@@ -400,14 +403,19 @@ fn reach(dice: &mut Dice, ranking: &[Route]) -> u32 {
 /// N and J; both are 1 where there is no route, for what is drawn beside them.
 #[derive(Clone, Copy)]
 pub struct Steps {
-    n: usize,
+    pub n: usize,
     pub settled_at: usize,
 }
 
-/// Draws the reach of a request, given all routes that any reach allows; returns the steps over those within it.
-pub fn draw_reach(dice: &mut Dice, request: &mut Request, mut ranking: Vec<Route>) -> Steps {
+/// Draws the reach of a request, given all routes that any reach allows; returns those within it.
+pub fn draw_reach(dice: &mut Dice, request: &mut Request, mut ranking: Vec<Route>) -> Vec<Route> {
     request.reach = reach(dice, &ranking);
     ranking.retain(|route| route.metres <= request.reach);
+    ranking
+}
+
+/// The steps over a ranking.
+pub fn steps(ranking: Vec<Route>) -> Steps {
     let n = ranking.len();
     let settled_at = if n == 0 { 1 } else { Plan::new(ranking, risks_and_spans).settled_at };
     Steps { n: n.max(1), settled_at }
@@ -445,13 +453,13 @@ fn sound(dice: &mut Dice, shape: Option<Shape>) -> Case {
         let (mut arcs, source, terminal) = mesh(dice, shape);
         let mut request = Request { source, terminal, reach: REACH_MAX, allowance: ALLOWANCE_MAX };
         let ranking = make_listable(dice, &mut arcs, &request);
-        let steps = draw_reach(dice, &mut request, ranking);
+        let steps = steps(draw_reach(dice, &mut request, ranking));
         // No route, or a pair settled by the first main, says little; most of these are passed over.
         if steps.settled_at == 1 && dice.percent(70) {
             continue;
         }
         request.allowance = allowance(dice, steps);
-        return Case { table: table_bytes(&arcs), closed: None, reply_len: reply_len(dice), request };
+        return Case { table: table_bytes(&arcs), closed: None, apart: false, reply_len: reply_len(dice), request };
     }
 }
 
@@ -567,9 +575,17 @@ fn damage(dice: &mut Dice, case: &mut Case) {
 
 // ---- What is compared ----
 
-/// A case without a closed set, and the trade's shape that its mesh was drawn in, if any.
-pub fn case(dice: &mut Dice) -> (Case, Option<Shape>) {
-    let shape = if dice.percent(TRADE_PERCENT) { Some(dice.pick(&SHAPES).0) } else { None };
+/// The trade's shape that a mesh is to be drawn in, if any.
+pub fn shape(dice: &mut Dice) -> Option<Shape> {
+    if dice.percent(TRADE_PERCENT) {
+        Some(dice.pick(&SHAPES).0)
+    } else {
+        None
+    }
+}
+
+/// A case without a closed set, its mesh in this shape.
+pub fn case(dice: &mut Dice, shape: Option<Shape>) -> Case {
     let mut case = sound(dice, shape);
     if dice.percent(BLANK_PERCENT) {
         leave_blanks(dice, &mut case);
@@ -577,14 +593,14 @@ pub fn case(dice: &mut Dice) -> (Case, Option<Shape>) {
     if dice.percent(25) {
         damage(dice, &mut case);
     }
-    (case, shape)
+    case
 }
 
 /// An input of the program: a case, now and then with damage that only an input can have.
 pub fn input(dice: &mut Dice) -> (Vec<u8>, Option<Shape>) {
     let (mut input, shape) = loop {
-        let (case, shape) = case(dice);
-        if let Some(input) = case.input() {
+        let shape = shape(dice);
+        if let Some(input) = case(dice, shape).input() {
             break (input, shape);
         }
     };

@@ -1,7 +1,9 @@
 //! Small meshes in the shapes of this trade, on which risks crowd: the ways into a building lie in a few ducts, those
 //! over a river too, and cables side by side. Any two routes then share some risk, and mostly none lies on all. In two
-//! of the shapes, where spans are known, it is a span that they share.
+//! of the shapes, where spans are known, it is a span that they share. The last two are for pairs that meet in no node
+//! between the ends (T-05): in one there are such, in the other the shorter routes all meet.
 
+use crate::listing::METRES_MAX;
 use crate::mesh::Arc;
 use crate::random::{chain, two_nodes, Dice, Ends};
 
@@ -17,10 +19,12 @@ pub enum Shape {
     SeveralRisks,
     Bridge,
     Lanes,
+    Strands,
+    Bypasses,
 }
 
 /// Every shape, in the order in which it is counted, and its name there.
-pub const SHAPES: [(Shape, &str); 10] = [
+pub const SHAPES: [(Shape, &str); 12] = [
     (Shape::DuctsIntoTerminal, "ducts into the terminal"),
     (Shape::DuctsIntoNeighbours, "into its neighbours"),
     (Shape::DuctsAtBothEnds, "at both ends"),
@@ -31,6 +35,8 @@ pub const SHAPES: [(Shape, &str); 10] = [
     (Shape::SeveralRisks, "several risks an arc"),
     (Shape::Bridge, "a bridge"),
     (Shape::Lanes, "lanes"),
+    (Shape::Strands, "strands"),
+    (Shape::Bypasses, "bypasses"),
 ];
 
 const SOURCE: u8 = 0;
@@ -116,6 +122,70 @@ fn lanes(dice: &mut Dice) -> Ends {
     ends
 }
 
+/// Strands that lead from the source to the terminal through nodes of their own, now and then with a second cable on a
+/// hop; arcs across from one to another; and cables straight from the source to the terminal.
+fn strands(dice: &mut Dice) -> Ends {
+    let (mut ends, mut inner) = (Ends::new(), Vec::new());
+    for _ in 0..dice.between(1, 3) {
+        let first = 2 + inner.len() as u8;
+        let own: Vec<u8> = (first..first + dice.between(1, 3) as u8).collect();
+        let nodes = [&[SOURCE], &own[..], &[TERMINAL]].concat();
+        for hop in nodes.windows(2) {
+            let cables = dice.pick(&[1, 1, 1, 2]);
+            ends.extend(vec![(hop[0], hop[1]); cables]);
+        }
+        inner.extend(own);
+    }
+    for _ in 0..dice.between(0, 5) {
+        let (tail, head) = two_nodes(dice, inner.len() + 2);
+        // None is a way into the source or out of the terminal, and none straight from the one to the other.
+        if head != SOURCE && tail != TERMINAL && (tail, head) != (SOURCE, TERMINAL) {
+            ends.push((tail, head));
+        }
+    }
+    let straight = dice.pick(&[0, 1, 1, 2, 3]);
+    ends.extend(vec![(SOURCE, TERMINAL); straight]);
+    ends
+}
+
+/// A line through a few nodes, now and then with a second cable on a hop, and around nearly each node a bypass: where a
+/// route has room for few bypasses, any two routes meet, and mostly no node is on all of them.
+fn bypasses(dice: &mut Dice) -> Ends {
+    let nodes = chain(dice.between(3, 5));
+    let mut ends = Ends::new();
+    for hop in nodes.windows(2) {
+        let cables = dice.pick(&[1, 1, 1, 2]);
+        ends.extend(vec![(hop[0], hop[1]); cables]);
+    }
+    for around in nodes.windows(3) {
+        let cables = dice.pick(&[0, 1, 1, 1, 1, 1, 2]);
+        ends.extend(vec![(around[0], around[2]); cables]);
+    }
+    ends
+}
+
+/// Whether an arc of a line leads to the next node, and is no bypass.
+fn is_hop(arc: &Arc, last: u8) -> bool {
+    let place = |node| match node {
+        SOURCE => 0,
+        TERMINAL => last,
+        _ => node - 1,
+    };
+    place(arc.head) == place(arc.tail) + 1
+}
+
+// ---- Lengths ----
+
+/// Makes each bypass of a line longer than any two hops, as far as an arc can be.
+fn lengthen_bypasses(arcs: &mut [Arc]) {
+    let last = arcs.iter().map(|arc| arc.tail.max(arc.head)).max().expect("arcs");
+    let hops = arcs.iter().filter(|arc| is_hop(arc, last));
+    let longest = hops.map(|arc| arc.metres).max().expect("hops");
+    for arc in arcs.iter_mut().filter(|arc| !is_hop(arc, last)) {
+        arc.metres = (2 * longest + 1 + arc.metres).min(METRES_MAX);
+    }
+}
+
 // ---- Risks ----
 
 /// The river is counted from that behind the first strip.
@@ -167,6 +237,15 @@ impl Shape {
             Shape::Cables => cables(dice),
             Shape::Bridge => bridge(dice),
             Shape::Lanes => lanes(dice),
+            Shape::Strands => strands(dice),
+            Shape::Bypasses => bypasses(dice),
+        }
+    }
+
+    /// The lengths that make the shape, where they do; they are drawn already.
+    pub fn lay_lengths(self, arcs: &mut [Arc]) {
+        if let Shape::Bypasses = self {
+            lengthen_bypasses(arcs);
         }
     }
 
@@ -203,7 +282,7 @@ impl Shape {
             }
             Shape::Ring => lay(arcs, 3, LAST_DUCT, |arc| arc.head == GATE),
             Shape::Bridge => lay_both_sides(arcs),
-            Shape::Cables | Shape::SeveralRisks | Shape::Lanes => (),
+            Shape::Cables | Shape::SeveralRisks | Shape::Lanes | Shape::Strands | Shape::Bypasses => (),
         }
     }
 
@@ -219,6 +298,8 @@ impl Shape {
                     lay_span(arcs, |arc| ends.contains(&(arc.tail, arc.head)));
                 }
             }
+            // What leads straight to the terminal lies in one trench.
+            Shape::Strands => lay_span(arcs, |arc| (arc.tail, arc.head) == (SOURCE, TERMINAL)),
             _ => (),
         }
     }

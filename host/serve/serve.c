@@ -11,13 +11,14 @@
  *             lengths of the mended table and of the list, then the whole table buffer and the whole list buffer.
  *   2, around table length, closed length, reply length, source, terminal, reach, allowance, then the table's bytes and
  *             the closed set's. The answer: as of a plan.
+ *   3, apart  the same as of 2, for a pair apart. The answer: as of a plan.
  *
  * Exit status 0 where the input ends between two cases, 1 where it ends within one or the output is closed, 2 where the
  * kind is another or a length is over MOST. */
 #include "feshangul.h"
 
 enum { MOST = 65536 };
-enum { PLAN = 0, MEND = 1, AROUND = 2 };
+enum { PLAN = 0, MEND = 1, AROUND = 2, APART = 3 };
 
 static uint8_t input[2 * MOST], answer[12 + 2 * MOST];
 
@@ -113,8 +114,11 @@ static void answer_plan(void)
     write_all(answer, 4 + reply_len);
 }
 
-/* The closed set stands behind the table, as it was read. */
-static void answer_around(void)
+typedef uint32_t planner(const uint8_t *, size_t, const uint8_t *, size_t, uint8_t *, size_t, uint32_t, uint32_t,
+                         uint32_t, uint32_t);
+
+/* Of an entry that takes a closed set, which stands behind the table, as it was read. */
+static void answer_with_set(planner *plan)
 {
     uint8_t head[28];
 
@@ -122,9 +126,9 @@ static void answer_around(void)
     uint32_t table_len = length_at(head), closed_len = length_at(head + 4), reply_len = length_at(head + 8);
     read_all(input, table_len + closed_len);
     memset(answer + 4, 0, reply_len);
-    uint32_t number = feshangul_plan_around(input, table_len, input + table_len, closed_len, answer + 4, reply_len,
-                                            feshangul_u32(head + 12), feshangul_u32(head + 16),
-                                            feshangul_u32(head + 20), feshangul_u32(head + 24));
+    uint32_t number = plan(input, table_len, input + table_len, closed_len, answer + 4, reply_len,
+                           feshangul_u32(head + 12), feshangul_u32(head + 16), feshangul_u32(head + 20),
+                           feshangul_u32(head + 24));
     feshangul_put_u32(answer, number);
     write_all(answer, 4 + reply_len);
 }
@@ -161,7 +165,10 @@ static _Noreturn void serve(void)
             answer_mend();
             break;
         case AROUND:
-            answer_around();
+            answer_with_set(feshangul_plan_around);
+            break;
+        case APART:
+            answer_with_set(feshangul_plan_apart);
             break;
         default:
             end(2);

@@ -8,17 +8,19 @@
         print(answer.verdict, answer.main.metres, answer.standby.metres)
 
 `plan` returns a Pair, or a Refusal with its number and words. `mesh.with_closed([3, 7])` is the mesh with these arcs closed, so
-that no route takes them. `mesh.blank` are the arcs with no risk listed, for which the planner refuses a mesh. `mend` takes the
-faulty arcs out of a mesh, and returns a Mended, or a MendRefusal; `mend_table` does so for a table in bytes. The standard
-library alone is needed.
+that no route takes them. `Request(.., apart=True)` asks for two routes that meet in no building but the two ends; where there
+are none, `on_every_route` tells what every route goes through. `mesh.blank` are the arcs with no risk listed, for which the
+planner refuses a mesh. `mend` takes the faulty arcs out of a mesh, and returns a Mended, or a MendRefusal; `mend_table` does so
+for a table in bytes. The standard library alone is needed.
 """
 
-__version__ = "0.8.0"
+__version__ = "0.9.0"
 
 from pathlib import Path
 
 from .answer import Pair, Refusal, Route, plan
 from .fault import Fault, InputFault, LibraryFault, clean
+from .meeting import Meeting, on_every_route
 from .mending import Change, Mended, MendRefusal, mend, mend_table
 from .mesh import Arc, Mesh, Request, Risk, Site, Trench
 from .text import read as parse_mesh
@@ -30,6 +32,7 @@ __all__ = [
     "Fault",
     "InputFault",
     "LibraryFault",
+    "Meeting",
     "MendRefusal",
     "Mended",
     "Mesh",
@@ -42,6 +45,7 @@ __all__ = [
     "Trench",
     "mend",
     "mend_table",
+    "on_every_route",
     "parse_mesh",
     "plan",
     "read_mesh",

@@ -96,10 +96,13 @@ def plan(mesh, request):
     if not all(0 <= number < 2**32 for number in asked):  # a call would carry another number
         ranges = f"nodes are {rules.NODE_RANGE}, the reach {rules.REACH_RANGE}, the allowance {rules.ALLOWANCE_RANGE}"
         raise InputFault(f"the request has a number that no call can carry: {ranges}")
-    closed = records.put_closed(mesh.closed) if mesh.closed else None
-    number, data = planner().plan(records.put_table(mesh.arcs), *asked, closed)
+    closed = records.put_closed(mesh.closed) if mesh.closed or request.apart else None
+    entry = planner().plan_apart if request.apart else planner().plan
+    number, data = entry(records.put_table(mesh.arcs), *asked, closed)
     if number in rules.BEHIND_BLANK:  # a library before T-09 returns these for blank arcs too
         hold_reply(not mesh.blank, f"number {number}, though no risk is listed for some arc")
+    if number in (rules.NONE_APART, rules.NONE_APART_YET):
+        hold_reply(request.apart, f"number {number}, though any pair was asked for")
     if number not in VERDICTS:
         return _refusal(mesh, request, number)
     return _pair(mesh, request, number, records.get_reply(data))
@@ -152,6 +155,8 @@ def _pair(mesh, request, number, reply):
     noticed and no sheet is made of it."""
     main = _route(mesh, request, reply.main, reply.main_metres)
     standby = _route(mesh, request, reply.standby, reply.standby_metres)
+    if request.apart:
+        _hold_apart(main, standby)
     risks, spans = main.risks & standby.risks, main.spans & standby.spans
     common = len(risks) + len(spans)
     hold_reply(reply.verdict == number, f"verdict {reply.verdict} beside number {number}")
@@ -160,6 +165,14 @@ def _pair(mesh, request, number, reply):
     hold_reply(reply.floor <= reply.shared, f"a floor of {reply.floor} over {reply.shared} shared")
     hold_reply(1 <= reply.ranked <= request.allowance, f"{reply.ranked} ranked")
     return Pair(mesh, request, number, common, reply.floor, reply.ranked, risks, spans, main, standby)
+
+
+def _hold_apart(main, standby):
+    for kind, common in (
+        ("node", [node for node in main.nodes[1:-1] if node in standby.nodes]),
+        ("arc", [arc for arc in main.arcs if arc in standby.arcs]),
+    ):
+        hold_reply(not common, f"{kind} {common[0] if common else None} on both routes")
 
 
 def _route(mesh, request, numbers, metres):

@@ -10,7 +10,7 @@ import sys
 from dataclasses import replace
 from typing import NamedTuple
 
-from . import __version__, answer, mending, names, records, rules, sheet, text, why
+from . import __version__, answer, meeting, mending, names, records, rules, sheet, text, why
 from .fault import Fault, InputFault, OutputFault, clean, hint, quoted
 from .line import Line
 from .mesh import Request
@@ -93,11 +93,14 @@ def _status(found):
 
 
 def _as_sheet(found, with_why):
-    return sheet.lines(found) + "\n" + sheet.words(found) + (why.words(found) if with_why else "")
+    return sheet.lines(found) + "\n" + sheet.words(found) + meeting.words(found) + (why.words(found) if with_why else "")
 
 
 def _as_json(found, with_why):
     fields = sheet.data(found)
+    met = meeting.data(found)
+    if met is not None:
+        fields["on_every_route"] = met
     if with_why:
         better = why.least_reach(found)
         fields["why"] = better and {"reach": better.reach, "shared": better.shared}
@@ -114,6 +117,8 @@ def _asked(options, mesh):
     for field, option, word in (("source", "--from", options.source), ("terminal", "--to", options.terminal)):
         if word is not None:
             given[field] = _end(mesh, option, word)
+    if options.apart:
+        given["apart"] = True
     requests = [replace(request, **given) for request in _chosen(options, mesh)]
     if not requests:
         if "source" not in given or "terminal" not in given:
@@ -210,6 +215,9 @@ def _bytes(options):
     if mesh.closed:  # without them `routes` would plan over what is closed
         found = f"{len(mesh.closed)}: the bytes that `routes` reads have no place for them"
         raise InputFault(f"{_shown(options.mesh)}: expected no closed arcs, found {found}")
+    if mesh.requests[0].apart:
+        found = '"apart": the bytes that `routes` reads have no place for it'
+        raise InputFault(f"{_shown(options.mesh)}: expected a request for any pair, found {found}")
     return Done(records.put_request(mesh.requests[0]) + records.put_table(mesh.arcs), 0)
 
 
@@ -282,6 +290,7 @@ def _parser():
     _add_request(plan)
     closed_help = "close this too, as a line `closed WHAT` of the mesh would; may be given several times"
     plan.add_argument("--closed", action="append", default=[], metavar="WHAT", help=closed_help)
+    plan.add_argument("--apart", action="store_true", help=f"want a pair that {sheet.MEETS_NOWHERE}")
     plan.add_argument("--json", action="store_true", help="print one JSON object a request, each on a line of its own")
     plan.add_argument("--why", action="store_true", help="tell the least reach at which fewer would be shared")
     plan.set_defaults(run=_plan)
@@ -304,7 +313,7 @@ def _parser():
         description="Writes the request and the arcs of a mesh to standard output as records, docs/FORMATS.md.",
     )
     _add_request(to_bytes)
-    to_bytes.set_defaults(run=_bytes)
+    to_bytes.set_defaults(run=_bytes, apart=False)
 
     to_text = commands.add_parser(
         "text",

@@ -24,7 +24,7 @@ RELEASE = HERE.parents[2] / "release"  # where this package is run from the repo
 INSTALLED = HERE.parents[3]  # PREFIX/lib, where `make install` has put it
 TABLE_BYTES_MAX = 2048
 OUTPUT_BYTES = rules.MEND_BYTES_MAX  # of the mended table, and of the list: always enough
-PLAN, MEND, AROUND = 0, 1, 2  # the kinds of case that host/serve answers
+PLAN, MEND, AROUND, APART = 0, 1, 2, 3  # the kinds of case that host/serve answers
 X86_64 = platform.machine() in ("x86_64", "AMD64")
 
 
@@ -51,13 +51,14 @@ class Loaded:
         try:
             library = ctypes.CDLL(str(path))
             self._plan, self._mend = library.feshangul_plan, library.feshangul_mend
-            self._plan_around = library.feshangul_plan_around
+            self._plan_around, self._plan_apart = library.feshangul_plan_around, library.feshangul_plan_apart
         except (OSError, AttributeError) as error:
             raise LibraryFault(f"the planner's library cannot be loaded: {error}") from None
         self._plan.restype = ctypes.c_uint32
         self._plan.argtypes = [ctypes.c_char_p, ctypes.c_size_t] * 2 + [ctypes.c_uint32] * 4
-        self._plan_around.restype = ctypes.c_uint32
-        self._plan_around.argtypes = [ctypes.c_char_p, ctypes.c_size_t] * 3 + [ctypes.c_uint32] * 4
+        for entry in (self._plan_around, self._plan_apart):
+            entry.restype = ctypes.c_uint32
+            entry.argtypes = [ctypes.c_char_p, ctypes.c_size_t] * 3 + [ctypes.c_uint32] * 4
         self._mend.restype = _Mended
         self._mend.argtypes = [ctypes.c_char_p, ctypes.c_size_t] * 3
 
@@ -68,6 +69,12 @@ class Loaded:
         if closed is None:
             return self._plan(table, len(table), *asked), reply.raw
         return self._plan_around(table, len(table), closed, len(closed), *asked), reply.raw
+
+    def plan_apart(self, table, source, terminal, reach, allowance, closed):
+        """The number that feshangul_plan_apart returns, and the reply that it leaves."""
+        reply = ctypes.create_string_buffer(REPLY_BYTES)
+        asked = (reply, REPLY_BYTES, source, terminal, reach, allowance)
+        return self._plan_apart(table, len(table), closed, len(closed), *asked), reply.raw
 
     def mend(self, table):
         """The number that feshangul_mend returns, the mended table, and the list of what was changed or lost."""
@@ -96,14 +103,17 @@ class Served:
 
     def plan(self, table, source, terminal, reach, allowance, closed=None):
         """As Loaded.plan."""
+        return self._planned(PLAN if closed is None else AROUND, table, closed, (source, terminal, reach, allowance))
+
+    def plan_apart(self, table, source, terminal, reach, allowance, closed):
+        """As Loaded.plan_apart."""
+        return self._planned(APART, table, closed, (source, terminal, reach, allowance))
+
+    def _planned(self, kind, table, closed, asked):
         # Any longer table is refused for its length alone, so one byte more than the most says as much.
-        table = table[: TABLE_BYTES_MAX + 1]
-        asked = (REPLY_BYTES, source, terminal, reach, allowance)
-        if closed is None:
-            case = struct.pack("<7I", PLAN, len(table), *asked) + table
-        else:
-            case = struct.pack("<8I", AROUND, len(table), len(closed), *asked) + table + closed
-        answer = self._ask(case, 4 + REPLY_BYTES)
+        inputs = [data for data in (table[: TABLE_BYTES_MAX + 1], closed) if data is not None]
+        numbers = (kind, *map(len, inputs), REPLY_BYTES, *asked)
+        answer = self._ask(struct.pack(f"<{len(numbers)}I", *numbers) + b"".join(inputs), 4 + REPLY_BYTES)
         return struct.unpack_from("<I", answer)[0], answer[4:]
 
     def mend(self, table):

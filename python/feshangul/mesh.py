@@ -55,13 +55,15 @@ class Arc:
 
 @dataclass(frozen=True)
 class Request:
-    """What is asked: two end nodes, how long a route may be in metres, and how many mains may be tried."""
+    """What is asked: two end nodes, how long a route may be in metres, how many mains may be tried, and whether the two routes
+    have to be apart: they then meet in no node but the two ends, and have no arc in common."""
 
     source: int
     terminal: int
     reach: int = rules.REACH_MAX
     allowance: int = 1000
     spare: tuple[int, int] = (0, 0)
+    apart: bool = False
 
 
 @dataclass(frozen=True)

@@ -24,6 +24,7 @@ ALLOWANCE_RANGE = f"1 to {ALLOWANCE_MAX:,}"
 SETTLED = 0
 STOPPED = 1
 NO_ROUTE = 10
+NONE_APART, NONE_APART_YET = 14, 15  # of a request for a pair apart: there is none, or none with its main within the allowance
 CLOSED_FAULT = 16
 
 # The faults of an arc; returned as one of these and REASONS times the arc's number.
@@ -41,10 +42,12 @@ REFUSALS = {
     8: f"the allowance is not {ALLOWANCE_RANGE}",
     NO_ROUTE: "no route from source to terminal is within reach",
     12: "the spare bytes of the request are not zero",
+    NONE_APART: "any two routes within reach meet in a building between the ends, or are the same arc",
+    NONE_APART_YET: "no main within the allowance has a standby that it meets in no building",
     CLOSED_FAULT: f"the closed set is not {CLOSED_BYTES} bytes, or marks an arc past the table",
 }
 NO_OPEN_ROUTE = "no route over open arcs from source to terminal is within reach"  # NO_ROUTE, where some arcs are closed
-BEHIND_BLANK = SETTLED, STOPPED, CLOSED_FAULT, NO_ROUTE  # only returned where no arc is blank
+BEHIND_BLANK = SETTLED, STOPPED, CLOSED_FAULT, NO_ROUTE, NONE_APART, NONE_APART_YET  # only returned where no arc is blank
 
 
 def arc_fault(arc):

@@ -8,6 +8,7 @@ Ask the operator which risks touch each of them, and list these. One that is kno
 risk of its own, the same in both directions. 0 m is only for a patch inside a building.
 `feshangul mend` leaves such arcs as they are.
 """
+MEETS_NOWHERE = "meets in no building but the two ends"
 
 
 def lines(answer):
@@ -25,7 +26,7 @@ def lines(answer):
 
 def words(answer):
     """The sheet: what a planner asks of an answer, in words."""
-    text = _asked(answer) + _closed(answer.mesh)
+    text = _asked(answer) + _apart(answer.request) + _closed(answer.mesh)
     if not isinstance(answer, Pair):
         return text + f"Refused, number {answer.number}: {answer.words}.\n" + _remedy(answer)
     text += _verdict(answer) + _shared(answer) + _floor(answer) + _met(answer)
@@ -43,14 +44,18 @@ def _asked(answer):
     return f"From {mesh.site(r.source)} to {mesh.site(r.terminal)}, each route within {r.reach:,} m{no_limit}.\n"
 
 
+def _apart(request):
+    return f"Asked for a pair that {MEETS_NOWHERE}.\n" if request.apart else ""
+
+
 def _closed(mesh):
     """What is closed; both directions of a line at once. It stands on the sheet of a refusal too: it may be the reason."""
     if not mesh.closed:
         return ""
-    return f"Closed, and so on no route: {'; '.join(_called(mesh, *numbers) for numbers in mesh.by_line(mesh.closed))}.\n"
+    return f"Closed, and so on no route: {'; '.join(called(mesh, *numbers) for numbers in mesh.by_line(mesh.closed))}.\n"
 
 
-def _called(mesh, number, *way_back):
+def called(mesh, number, *way_back):
     """An arc, or both arcs of a line, apart from any route."""
     if number >= len(mesh.arcs):
         return f"arc {number}, which is past the table"
@@ -77,23 +82,26 @@ def _blank(mesh):
     for numbers in lines:
         line = mesh.arcs[numbers[0]].line
         place = "" if line is None else f"line {line}: "
-        text += f"  {place}{_called(mesh, *numbers)}\n"
+        text += f"  {place}{called(mesh, *numbers)}\n"
     return text
 
 
 def _verdict(pair):
     mains = _counted(pair.ranked, "main")
     at_floor = pair.shared == pair.floor
+    apart = pair.request.apart
     if pair.number == rules.SETTLED:
         if at_floor:
-            why = "no pair within this reach shares fewer, and none that shares as few is shorter"
+            none = "no such pair" if apart else "none"
+            why = f"no pair within this reach shares fewer, and {none} that shares as few is shorter"
         else:
             why = "every route within this reach has been tried as main"
         return f"Settled after {mains}: {why}. No larger allowance changes this pair.\n"
     if at_floor:
         why = "no pair within this reach shares fewer; only the length could still get better"
     else:
-        why = f"a larger one may find a pair that shares fewer, {pair.floor} at best, or as few at less length"
+        a_pair = "such a pair" if apart else "a pair"
+        why = f"a larger one may find {a_pair} that shares fewer, {pair.floor} at best, or as few at less length"
     return f"Stopped after {mains}, which is the allowance: {why}. A larger allowance never gives a worse pair.\n"
 
 
@@ -128,6 +136,8 @@ def _floor(pair):
 
 
 def _met(pair):
+    if pair.request.apart:
+        return f"The pair {MEETS_NOWHERE}, and no arc is on both routes.\n"
     nodes = [pair.mesh.site(n) for n in pair.common_nodes]
     arcs = [pair.mesh.cable(a) for a in pair.uncounted_arcs]
     met = [f"{_counted(len(nodes), 'site')} ({', '.join(nodes)})"] if nodes else []
@@ -176,12 +186,13 @@ def data(answer):
     found = {
         "verdict": answer.verdict,
         "number": answer.number,
-        "from": _site(mesh, r.source),
-        "to": _site(mesh, r.terminal),
+        "from": site_data(mesh, r.source),
+        "to": site_data(mesh, r.terminal),
         "reach": r.reach,
         "allowance": r.allowance,
-        "closed": [_arc(mesh, n) for n in sorted(mesh.closed)],
-        "blank": [_arc(mesh, n) | {"line": mesh.arcs[n].line} for n in mesh.blank],
+        "apart": r.apart,
+        "closed": [arc_data(mesh, n) for n in sorted(mesh.closed)],
+        "blank": [arc_data(mesh, n) | {"line": mesh.arcs[n].line} for n in mesh.blank],
     }
     if not isinstance(answer, Pair):
         return found | {"words": answer.words, "arc": answer.arc, "line": answer.line}
@@ -190,8 +201,8 @@ def data(answer):
         "span_count": len(answer.shared_spans),
         "risks": [_risk(mesh, n) for n in sorted(answer.shared_risks)],
         "spans": [_span(mesh, n) for n in answer.common_spans],
-        "sites": [_site(mesh, n) for n in answer.common_nodes],
-        "uncounted_arcs": [_arc(mesh, n) for n in answer.uncounted_arcs],
+        "sites": [site_data(mesh, n) for n in answer.common_nodes],
+        "uncounted_arcs": [arc_data(mesh, n) for n in answer.uncounted_arcs],
     }
     return found | {
         "shared": shared,
@@ -203,7 +214,7 @@ def data(answer):
     }
 
 
-def _site(mesh, node):
+def site_data(mesh, node):
     site = mesh.sites[node] if node < len(mesh.sites) else None
     return {"number": node, "name": site and site.name, "title": site and site.title}
 
@@ -222,12 +233,12 @@ def _route_data(mesh, route):
     return {
         "metres": route.metres,
         "kilometres": route.kilometres,
-        "nodes": [_site(mesh, n) for n in route.nodes],
-        "arcs": [_arc(mesh, n) for n in route.arcs],
+        "nodes": [site_data(mesh, n) for n in route.nodes],
+        "arcs": [arc_data(mesh, n) for n in route.arcs],
     }
 
 
-def _arc(mesh, number):
+def arc_data(mesh, number):
     if number >= len(mesh.arcs):  # closed, and for that refused
         return {"number": number} | dict.fromkeys(("name", "title", "span", "from", "to", "metres", "risks"))
     arc = mesh.arcs[number]
@@ -237,8 +248,8 @@ def _arc(mesh, number):
         "name": cable and cable.name,
         "title": cable and cable.title,
         "span": _span(mesh, arc.span) if arc.span else None,
-        "from": _site(mesh, arc.tail),
-        "to": _site(mesh, arc.head),
+        "from": site_data(mesh, arc.tail),
+        "to": site_data(mesh, arc.head),
         "metres": arc.metres,
         "risks": [_risk(mesh, r) for r in sorted(arc.risks)],
     }

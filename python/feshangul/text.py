@@ -105,13 +105,19 @@ def _read_request(line):
     reach = line.metres("the reach", FOUR_BYTES, rules.REACH_RANGE)
     line.need("allowance")
     allowance = line.number("the allowance", FOUR_BYTES, rules.ALLOWANCE_RANGE)
+    apart = _read_apart(line)
     spare = (0, 0)
     if line.take("spare"):
         low = line.number("0 as spare bytes 2-3", TWO_BYTES)
         line.need(",")
         spare = (low, line.number("0 as spare bytes 12-15", FOUR_BYTES))
     line.end()
-    return Request(source, terminal, reach, allowance, spare)
+    return Request(source, terminal, reach, allowance, spare, apart)
+
+
+def _read_apart(line):
+    """Whether a request goes on with the word that asks for a pair apart."""
+    return line.name_ahead() == "apart" and line.take("apart")
 
 
 def _read_arc(line, arc, number):
@@ -268,7 +274,7 @@ class _Named:
             given["reach"] = line.metres("the reach", rules.REACH_MAX, rules.REACH_RANGE)
         if line.take("allowance"):
             given["allowance"] = read_allowance(line)
-        self.requests.append(Request(source, terminal, **given))
+        self.requests.append(Request(source, terminal, **given, apart=_read_apart(line)))
 
 
 def _read_ends(line, sites, between=""):
@@ -332,7 +338,7 @@ def write(mesh):
 def _write_numbered(mesh):
     (r,) = mesh.requests
     spare = f" spare {r.spare[0]},{r.spare[1]}" if any(r.spare) else ""
-    lines = [f"from {r.source} to {r.terminal} reach {r.reach} allowance {r.allowance}{spare}"]
+    lines = [f"from {r.source} to {r.terminal} reach {r.reach} allowance {r.allowance}{_apart(r)}{spare}"]
     for number, a in enumerate(mesh.arcs):
         span = f" span {a.span}" if a.span else ""
         lines.append(f"{number}: {a.tail},{a.head},{a.metres},{braced(a.risks)}{span}")
@@ -350,7 +356,7 @@ def _write_named(mesh):
     lines += _written_closings(mesh)
     for r in mesh.requests:
         ends = f"{mesh.sites[r.source].name} {mesh.sites[r.terminal].name}"
-        lines.append(f"request {ends} reach {_length(r.reach)} allowance {r.allowance}")
+        lines.append(f"request {ends} reach {_length(r.reach)} allowance {r.allowance}{_apart(r)}")
     return "\n".join(lines) + "\n"
 
 
@@ -364,6 +370,10 @@ def _written_cable(mesh, arcs, title):
 
 def _written_closings(mesh):
     return [f"closed {closing.written(mesh)}" for closing in closings_of(mesh)]
+
+
+def _apart(request):
+    return " apart" if request.apart else ""
 
 
 def _title(title):

@@ -492,7 +492,8 @@ class Replies(unittest.TestCase):
 
 class Library(unittest.TestCase):
     def test_where_nothing_is_closed_the_call_is_the_old_one(self):
-        entries = {f"feshangul_{name}": mock.Mock(return_value=7) for name in ("plan", "mend", "plan_around")}
+        names_of_entries = ("plan", "mend", "plan_around", "plan_apart")
+        entries = {f"feshangul_{name}": mock.Mock(return_value=7) for name in names_of_entries}
         with mock.patch("ctypes.CDLL", return_value=types.SimpleNamespace(**entries)):
             loaded = library.Loaded("libfeshangul.so")
         plan, around = entries["feshangul_plan"], entries["feshangul_plan_around"]

@@ -147,6 +147,7 @@ class HelpAndVersion(CommandTest):
                     "--reach LENGTH",
                     "--allowance N",
                     "--closed WHAT",
+                    "--apart",
                     "--json",
                     "--why",
                     "0 settled, 1 stopped, 2 usage or input, 3 refused",
@@ -176,7 +177,7 @@ class HelpAndVersion(CommandTest):
                     self.assertIn(word, help_text)
 
     def test_version_is_that_of_the_header(self):
-        self.assertEqual(run("--version"), Ran(0, b"feshangul 0.8.0\n", b""))
+        self.assertEqual(run("--version"), Ran(0, b"feshangul 0.9.0\n", b""))
         header = (RELEASE / "feshangul.h").read_text(encoding="utf-8")
         self.assertIn(f'#define FESHANGUL_VERSION "{feshangul.__version__}"\n', header)
 
@@ -317,6 +318,7 @@ A_JSON = {
     "to": node(3),
     "reach": 10000,
     "allowance": 1000,
+    "apart": False,
     "closed": [],
     "blank": [],
     "shared": {"count": 0, "span_count": 0, "risks": [], "spans": [], "sites": [], "uncounted_arcs": []},
@@ -381,6 +383,7 @@ ONE_WAY_JSON = {
     "to": D,
     "reach": 9000,
     "allowance": 1000,
+    "apart": False,
     "closed": [],
     "blank": [],
     "shared": {
@@ -427,10 +430,11 @@ class Json(CommandTest):
 
     def test_a_refusal_has_words_and_where_it_is_one_arcs_fault_its_place(self):
         faulty = self.file("from 0 to 1 reach 10 allowance 1\n0: 0,1,5,{0}\n\n1: 7,7,5,{0}\n")
-        asked = {"from": node(0), "to": node(1), "reach": 10, "allowance": 1, "closed": [], "blank": []}
+        given = {"apart": False, "closed": [], "blank": []}
+        asked = {"from": node(0), "to": node(1), "reach": 10, "allowance": 1, **given}
         words = "arc 1, line 4: both ends are node 7"
         self.assertEqual(self.fields(faulty), [{"verdict": "refused", "number": 277, **asked, "words": words, "arc": 1, "line": 4}])
-        asked = {"from": node(0), "to": node(3), "reach": 2999, "allowance": 1000, "closed": [], "blank": []}
+        asked = {"from": node(0), "to": node(3), "reach": 2999, "allowance": 1000, **given}
         words = "no route from source to terminal is within reach"
         self.assertEqual(
             self.fields(A, "--reach", "2999"),
@@ -680,6 +684,7 @@ PLACES_IN_A_MESH = (
     HEAD + "request A {}",
     HEAD + "request A B reach {}",
     HEAD + "request A B allowance {}",
+    HEAD + "request A B apart {}",
     HEAD + "{}",
     "from {}",
     "from 0 {}",
@@ -688,6 +693,7 @@ PLACES_IN_A_MESH = (
     "from 0 to 1 reach 1 allowance {}",
     "from 0 to 1 reach 1 allowance 1 {}",
     "from 0 to 1 reach 1 allowance 1 spare {}",
+    "from 0 to 1 reach 1 allowance 1 apart {}",
     "from 0 to 1 reach 1 allowance 1\n{}",
     "from 0 to 1 reach 1 allowance 1\nclosed {}",
     "from 0 to 1 reach 1 allowance 1\nclosed 0 {}",
@@ -711,6 +717,7 @@ PLACES_ON_THE_LINE = (
     "plan MESH --request {}",
     "plan MESH --closed {}",
     "plan MESH --json={}",
+    "plan MESH --apart={}",
     "mend MESH {}",
     "mend MESH --{}",
     "mend MESH --bytes={}",

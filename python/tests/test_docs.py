@@ -25,11 +25,12 @@ def fields_of(found):
     return set(found if isinstance(found, dict) else ()).union(*map(fields_of, inner))
 
 
-def rows(name, heading):
+def rows(name, heading, keep_commas=False):
     """The rows of the first table under a heading, as lists of cells, without the two that head it."""
     section = (REPOSITORY / name).read_text(encoding="utf-8").split(f"## {heading}\n")[1]
     table = re.search(r"(?:^\|.*\n)+", section, re.MULTILINE)[0].splitlines()[2:]
-    return [[cell.strip().replace(",", "") for cell in row.strip("|").split("|")] for row in table]
+    cells = [[cell.strip() for cell in row.strip("|").split("|")] for row in table]
+    return cells if keep_commas else [[cell.replace(",", "") for cell in row] for row in cells]
 
 
 class Documents(unittest.TestCase):
@@ -77,6 +78,34 @@ class Documents(unittest.TestCase):
                 self.assertEqual(sheet.count(closed), 1)
             self.assertTrue(to_london.endswith(refused))
 
+    def test_the_mesh_worked_through_in_meshes_for_pairs_apart_prints_what_is_told_of_it(self):
+        mesh, printed, _, _, _, asked, refused, *_ = blocks("docs/MESHES.md", "site LON")
+        found = call("plan", "-", "--apart", stdin=mesh.encode()).output.decode()
+        behind = re.sub(r"(request .*)", r"\1 apart", mesh)
+        self.assertEqual(call("plan", "-", stdin=behind.encode()).output.decode(), found)
+        to_paris, to_london = found.split("\nrefused 14\n")
+        self.assertTrue(to_paris.startswith("".join(printed.splitlines(keepends=True)[:3])))
+        self.assertIn("The pair meets in no building but the two ends", to_paris)
+        for sheet in (to_paris, to_london):
+            self.assertEqual(sheet.count(asked), 1)
+        self.assertTrue(to_london.endswith(refused))
+
+    def test_the_meshes_for_pairs_apart_in_meshes_print_what_stands_beside_them(self):
+        checked = 0
+        for cells in rows("docs/MESHES.md", "Pairs apart", keep_commas=True):
+            arcs = re.findall(r"`(.*)`", cells[0])[0].replace("; ", "\n") if "`" in cells[0] else arcs
+            for allowance, line in re.findall(r"(\d+): `(.*?)`", cells[2]):
+                with self.subTest(cells[0], reach=cells[1], allowance=allowance):
+                    mesh = f"from 0 to 1 reach {cells[1]} allowance {allowance} apart\n{arcs}\n"
+                    self.assertEqual(call("plan", "-", stdin=mesh.encode()).output.decode().split("\n")[0], line)
+                    checked += 1
+        self.assertEqual(checked, 18)
+
+    def test_the_mesh_refused_by_15_in_meshes_prints_what_stands_below_it(self):
+        mesh, printed, *_ = blocks("docs/MESHES.md", "from 0 to 1")
+        ran = call("plan", "-", stdin=mesh.encode())
+        self.assertEqual((ran.status, ran.output.decode()), (3, printed))
+
     def test_the_mesh_mended_in_meshes_becomes_what_stands_below_it(self):
         faulty, printed, _, command, *_ = blocks("docs/MESHES.md", "from 0 to 2")
         ran = call("mend", "-", stdin=faulty.encode())
@@ -96,16 +125,21 @@ class Documents(unittest.TestCase):
     def test_every_field_of_an_answer_in_json_stands_in_meshes(self):
         mesh, *_ = blocks("docs/MESHES.md", "site LON")
         _, faulty, *_ = blocks("docs/MESHES.md", "from 0 to 3")
-        answers = [call("plan", "--json", "--why", "-", stdin=written.encode()).output.decode() for written in (mesh, faulty)]
+        given = ((mesh, ()), (faulty, ()), (mesh, ("--apart",)))
+        answers = [call("plan", "--json", "--why", "-", *words, stdin=text.encode()).output.decode() for text, words in given]
         fields = fields_of([json.loads(line) for written in answers for line in written.splitlines()])
-        self.assertTrue({"span_count", "uncounted_arcs", "title", "why", "words"} <= fields)
+        self.assertTrue({"span_count", "uncounted_arcs", "title", "why", "words", "apart", "on_every_route"} <= fields)
         table = (REPOSITORY / "docs/MESHES.md").read_text(encoding="utf-8").split("`plan --json` prints")[1]
         for field in fields:
             with self.subTest(field):
                 self.assertIn(f"`{field}`", table.split("`mend --json` prints")[0])
 
     def test_the_meshes_worked_in_rules_are_the_examples(self):
-        for name, heading in (("A.txt", "A mesh worked by hand"), ("F.txt", "Two cables in one trench, worked by hand")):
+        for name, heading in (
+            ("A.txt", "A mesh worked by hand"),
+            ("F.txt", "Two cables in one trench, worked by hand"),
+            ("H.txt", "A pair apart, worked by hand"),
+        ):
             with self.subTest(name):
                 expected = [
                     [str(number), f"{a.tail} {a.head}", str(a.metres), " ".join(map(str, sorted(a.risks))) or "-", str(a.span)]

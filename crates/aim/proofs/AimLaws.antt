@@ -16,8 +16,8 @@ use Rattle.look.proofs.LookLaws.{leads-is}
 use Rattle.sweep.specs.Sweep.{Sweeping}
 
 -- nothing is made of the routes met
-abbrev idle : ℕ → Behind → ℕ
-idle s e = s
+abbrev idle : ℕ → Behind → ℕ → ℕ
+idle s e k = s
 
 -- the count stands at arc i of the node's chain
 abbrev pub Stands : List ℕ → Behind → ℕ → ℕ → Type 0

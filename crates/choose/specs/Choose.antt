@@ -1,14 +1,15 @@
 -- From the end of a run to the reply: the pair's own routes, the number ranked, the verdict. Assumes nothing.
 use Prim.Native.Nat.{ℕ, _+_, _-_, _/_, _≤_, _<_}
+use mathlib.Core.Bool.{Bool, true, false}
 use mathlib.Core.List.{List}
 use mathlib.Core.Path.{_≡_}
-use lib.Dec.{eqb}
+use lib.Dec.{eqb, leb}
 use lib.ListN.{length, getD}
 use Rattle.laws.specs.Choosing.{if_then_else_}
 use Rattle.problem.specs.Table.{hazards, mostReach, mostAllowance}
 use Rattle.problem.specs.Routes.{Route, count, shorter}
-use Rattle.problem.specs.Pairs.{noRoute, every, best, ranked, verdict}
-use Rattle.keys.specs.Keys.{standbyKey, pairKey, keyOf, sharedOf, totalOf, mainOf}
+use Rattle.problem.specs.Pairs.{Pair, noRoute, someAt, best, ranked, verdict}
+use Rattle.keys.specs.Keys.{standbyKey, pairKey, keyOf, sharedOf, totalOf, mainOf, noKey}
 use Rattle.net.specs.Net.{meshIn, routesIn}
 use Rattle.tally.specs.declared.Tally.{Tally}
 use Rattle.track.specs.Track.{routeIn, pairIn, Fit}
@@ -16,13 +17,22 @@ use Rattle.choose.specs.declared.Choice.{Choice}
 use Rattle.choose.specs.declared.Numbers.{Numbers}
 use Rattle.choose.specs.declared.Pairing.{Pairing}
 
--- what a reply says besides the floor
-pub record Chosen (routes : List Route) (allowance : ℕ) (c : Choice) : Type 0 where
+-- where a pair is judged whose main is within the allowance: what a reply says besides the floor
+pub record PairChosen (ok : Pair → Bool) (routes : List Route) (allowance : ℕ) (c : Choice) : Type 0 where
+  pub verdict-is : c .verdict ≡ verdict ok routes allowance
+  pub ranked-is : c .ranked ≡ ranked ok routes allowance
+  pub pair-is : pairIn (c .main) (c .standby) ≡ best ok routes (ranked ok routes allowance)
+
+-- the number where there is none (T-05): every route was a main, or not yet
+abbrev pub noPair : List Route → ℕ → ℕ
+noPair routes allowance = if leb (length routes) allowance then 14 else 15
+
+-- that, or that number in place of the verdict
+pub record Chosen (ok : Pair → Bool) (routes : List Route) (allowance : ℕ) (c : Choice) : Type 0 where
   pub main-fit : Fit (c .main)
   pub standby-fit : Fit (c .standby)
-  pub verdict-is : c .verdict ≡ verdict every routes allowance
-  pub ranked-is : c .ranked ≡ ranked every routes allowance
-  pub pair-is : pairIn (c .main) (c .standby) ≡ best every routes (ranked every routes allowance)
+  pub some : someAt ok routes allowance ≡ true → PairChosen ok routes allowance c
+  pub none : someAt ok routes allowance ≡ false → c .verdict ≡ noPair routes allowance
 
 -- the key of a pair of routes, and the numbers read off it
 pub record Readable (key : ℕ) : Type 0 where
@@ -40,29 +50,31 @@ pub record ReadOff (key : ℕ) (n : Numbers) : Type 0 where
   pub standby-is : n .standby ≡ totalOf key - mainOf key
 
 -- a step whose best pair has the key
-pub record OfStep (routes : List Route) (key step : ℕ) : Type 0 where
-  pub some : 0 < step
+pub record OfStep (ok : Pair → Bool) (routes : List Route) (key step : ℕ) : Type 0 where
   pub to-N : step ≤ length routes
   pub few : step ≤ mostAllowance
-  pub is : key ≡ keyOf (best every routes step)
+  pub some : someAt ok routes step ≡ true
+  pub is : key ≡ keyOf (best ok routes step)
 
 -- the best pair of a step, and where its main stands in the ranking: behind the shorter routes and those of its length that came before it
-pub record BestOf (routes : List Route) (step : ℕ) (p : Pairing) : Type 0 where
-  pub pair-is : pairIn (p .main) (p .standby) ≡ best every routes step
+pub record BestOf (ok : Pair → Bool) (routes : List Route) (step : ℕ) (p : Pairing) : Type 0 where
+  pub pair-is : pairIn (p .main) (p .standby) ≡ best ok routes step
   pub place-is : getD routes (count (shorter (p .main .metres)) routes + p .passed) noRoute ≡ routeIn (p .main)
   pub early : count (shorter (p .main .metres)) routes + p .passed < step
 
 -- what is found by a key: the best pair of every step that has it
-pub record ByKey (routes : List Route) (key : ℕ) (p : Pairing) : Type 0 where
+pub record ByKey (ok : Pair → Bool) (routes : List Route) (key : ℕ) (p : Pairing) : Type 0 where
   pub main-fit : Fit (p .main)
   pub standby-fit : Fit (p .standby)
-  pub best-of : {j : ℕ} → OfStep routes key j → BestOf routes j p
+  pub best-of : {j : ℕ} → OfStep ok routes key j → BestOf ok routes j p
 
--- the tally of a run that ranked no more than it replies, with this verdict
-pub record AsRanked (routes : List Route) (allowance : ℕ) (t : Tally) (word : ℕ) : Type 0 where
-  pub of-step : OfStep routes (t .best) (t .ranked)
-  pub ranked-is : t .ranked ≡ ranked every routes allowance
-  pub verdict-is : word ≡ verdict every routes allowance
+-- the tally of a run that ranked no more than it replies, with this verdict; where it says no pair, with this number
+pub record AsRanked (ok : Pair → Bool) (routes : List Route) (allowance : ℕ) (t : Tally) (word number : ℕ) : Type 0 where
+  pub of-step : (t .best ≡ noKey → ⊥) → OfStep ok routes (t .best) (t .ranked)
+  pub none : t .best ≡ noKey → someAt ok routes allowance ≡ false
+  pub ranked-is : t .ranked ≡ ranked ok routes allowance
+  pub verdict-is : word ≡ verdict ok routes allowance
+  pub number-is : number ≡ noPair routes allowance
 
 -- the counted step of a pair of so many metres in total, whose main stands behind `passed` routes of its length
 unfoldable pub stepBy : List Route → ℕ → ℕ → ℕ → ℕ

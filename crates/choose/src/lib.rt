@@ -8,8 +8,9 @@ ghost use mathlib.Core.Path.{_≡_};
 ghost use Prim.Native.Nat.{_≤_};
 ghost use Rattle.problem.specs.Table.{mostAllowance};
 ghost use Rattle.problem.specs.Routes.{count, shorter};
-ghost use Rattle.net.specs.Net.{Net, meshIn, routesIn};
+ghost use Rattle.net.specs.Net.{Net, meshIn, routesIn, judgedIn};
 ghost use Rattle.cores.specs.Cores.{Stored};
+ghost use Rattle.track.specs.Track.{Fit};
 ghost use Rattle.plan.specs.declared.Run.the-variants.{ByLength};
 ghost use Rattle.plan.specs.Plan.{Ended};
 ghost use Rattle.choose.specs.Choose.{Chosen, Readable, ReadOff, ByKey, AsRanked, stepBy, Halved};
@@ -18,7 +19,12 @@ const SETTLED: u8 = 0;
 
 const STOPPED: u8 = 1;
 
-// The verdict, how many routes were ranked, and the pair.
+// There is no pair to be judged (T-05): none of all routes, or none whose main is within the allowance.
+const NONE_AT_ALL: u8 = 14;
+
+const NONE_YET: u8 = 15;
+
+// The verdict, how many routes were ranked, and the pair; where there is none, its number in place of the verdict.
 pub struct Choice {
     pub verdict: u8,
     pub ranked: u32,
@@ -83,10 +89,10 @@ struct Pairing {
     passed: u64,
 }
 
-// The pair whose key is `best`: the first main of its length, in depth-first order, that makes such a pair, and the first standby that makes it with that main.
+// The pair whose key is `best`: the first main of its length, in depth-first order, that makes such a pair, and the first standby that makes it with that main and keeps off what the main bars.
 fn pair_by(net: &[u64; net::SIZE], store: &mut [u64; cores::OWN_WORDS], best: u64) -> Pairing
     requires { ⌜ Net (now net) × Readable best × Stored (now net) (now store) ⌝ }
-    ensures pair { λ r. ⌜ ByKey (routesIn (now (net .entry))) best r ⌝ }
+    ensures pair { λ r. ⌜ ByKey (judgedIn (now (net .entry))) (routesIn (now (net .entry))) best r ⌝ }
     ensures stored { λ _. ⌜ Stored (now (net .entry)) (now (store .exit)) ⌝ }
 {
     let n = read_off(best);
@@ -97,11 +103,13 @@ fn pair_by(net: &[u64; net::SIZE], store: &mut [u64; cores::OWN_WORDS], best: u6
             metres: n.main,
             key: n.key,
             main: exposure::nothing(),
+            off: bars::nothing(),
             as_main: true,
         },
     );
     let main = m.track;
     let exposure = main.exposure;
+    let off = find::barred_by(net, main);
     let s = find::first_route(
         net,
         store,
@@ -109,6 +117,7 @@ fn pair_by(net: &[u64; net::SIZE], store: &mut [u64; cores::OWN_WORDS], best: u6
             metres: n.standby,
             key: n.key,
             main: exposure,
+            off: off,
             as_main: false,
         },
     );
@@ -148,7 +157,7 @@ fn settled(
     t: Tally,
 ) -> Choice
     requires { ⌜ Net (now net) × (allowance ≤ mostAllowance) × Ended (now net) allowance (ByLength t) × Stored (now net) (now store) ⌝ }
-    ensures { λ r. ⌜ Chosen (routesIn (now (net .entry))) allowance r ⌝ }
+    ensures { λ r. ⌜ Chosen (judgedIn (now (net .entry))) (routesIn (now (net .entry))) allowance r ⌝ }
 {
     let p = pair_by(net, store, t.best);
     let main = p.main;
@@ -163,17 +172,33 @@ fn settled(
     }
 }
 
-// The reply of a run that ranked no more than it replies.
+// No pair is judged.
+fn no_pair(number: u8) -> Choice
+    ensures { λ r. ⌜ (r .verdict ≡ number) × Fit (r .main) × Fit (r .standby) ⌝ }
+{
+    Choice {
+        verdict: number,
+        ranked: 0,
+        main: track::empty(),
+        standby: track::empty(),
+    }
+}
+
+// The reply of a run that ranked no more than it replies; `number` where it found no pair.
 fn as_ranked(
     net: &[u64; net::SIZE],
     store: &mut [u64; cores::OWN_WORDS],
     allowance: u64,
     t: Tally,
     verdict: u8,
+    number: u8,
 ) -> Choice
-    requires { ⌜ Net (now net) × (allowance ≤ mostAllowance) × AsRanked (routesIn (now net)) allowance t verdict × Stored (now net) (now store) ⌝ }
-    ensures { λ r. ⌜ Chosen (routesIn (now (net .entry))) allowance r ⌝ }
+    requires { ⌜ Net (now net) × (allowance ≤ mostAllowance) × AsRanked (judgedIn (now net)) (routesIn (now net)) allowance t verdict number × Stored (now net) (now store) ⌝ }
+    ensures { λ r. ⌜ Chosen (judgedIn (now (net .entry))) (routesIn (now (net .entry))) allowance r ⌝ }
 {
+    if t.best == keys::NO_KEY {
+        return no_pair(number);
+    }
     let p = pair_by(net, store, t.best);
     let main = p.main;
     let standby = p.standby;
@@ -193,11 +218,11 @@ pub fn choose(
     run: Run,
 ) -> Choice
     requires { ⌜ Net (now net) × (allowance ≤ mostAllowance) × Ended (now net) allowance run × Stored (now net) (now store) ⌝ }
-    ensures { λ r. ⌜ Chosen (routesIn (now (net .entry))) allowance r ⌝ }
+    ensures { λ r. ⌜ Chosen (judgedIn (now (net .entry))) (routesIn (now (net .entry))) allowance r ⌝ }
 {
     match run {
         Run::ByLength(t) => settled(net, store, allowance, t),
-        Run::AllRanked(t) => as_ranked(net, store, allowance, t, SETTLED),
-        Run::AtAllowance(t) => as_ranked(net, store, allowance, t, STOPPED),
+        Run::AllRanked(t) => as_ranked(net, store, allowance, t, SETTLED, NONE_AT_ALL),
+        Run::AtAllowance(t) => as_ranked(net, store, allowance, t, STOPPED, NONE_YET),
     }
 }

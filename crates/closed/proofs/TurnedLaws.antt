@@ -1,7 +1,7 @@
 -- Closed arcs turned round: what the bytes of a table then say, and that its routes are those of the same arcs with the closed ones shut. Assumes nothing.
 use mathlib.Core.Path.{_≡_, refl, sym, ap, ap₂, _∙_, subst}
 use mathlib.Core.Bool.{Bool, true, false}
-use mathlib.Core.List.{List, [], _∷_, _++_, map}
+use mathlib.Core.List.{List, [], _∷_, _++_, map, List·Memᴰ, List·Memᴰ·head, List·Memᴰ·tail}
 use Prim.Native.Nat.{ℕ, zero, suc, _+_, _*_, _-_, _/_, _≤_, _<_}
 use native.Mathlib.Omega.{arith}
 use lib.Dec.{eqb, ltb}
@@ -13,15 +13,19 @@ use Rattle.laws.specs.Sets.{with}
 use Rattle.problem.specs.declared.Arc.{Arc}
 use Rattle.problem.specs.declared.Request.{Request}
 use Rattle.problem.specs.Table.{lastNode, mostArcs, recordAt, arcOf, arcsOf, numberAt, SoundArc, allSound}
-use Rattle.problem.specs.Closed.{isOpen, shut, closedBy, shutIn}
+use Rattle.problem.specs.Closed.{isOpen, AllOpen, shut, closedBy, shutIn}
 use Rattle.problem.specs.Exposures.{ofArc}
-use Rattle.problem.specs.Routes.{arcAt, opens, sprout, grow, pathsFrom, Route, routeOf, routesFrom, precedes, within, ranking}
+use Rattle.problem.specs.Routes.{arcAt, nodesFrom, Way, opens, sprout, grow, pathsFrom, Route, routeOf, routesFrom, precedes, within, ranking}
+use Rattle.problem.specs.Pairs.{pair}
+use Rattle.problem.specs.Apart.{judges}
 use Rattle.problem.specs.Reply.{meshOver}
 use Rattle.problem.proofs.FaultLaws.{faultless-number, arc-sound}
 use Rattle.problem.proofs.TableLaws.{arcs-length, arcs-at, number-sound, sound-at}
 use Rattle.problem.proofs.PathLaws.{LowHeads}
 use Rattle.problem.proofs.RouteLaws.{sprout-over, sprout-past, sprout-other}
-use Rattle.problem.proofs.ClosedLaws.{closed-length, closed-place, closed-keeps, shut-metres, shut-exposure, route-alike}
+use Rattle.problem.proofs.RankingLaws.{Listed, ranking-out}
+use Rattle.problem.proofs.SameLaws.{judges-same}
+use Rattle.problem.proofs.ClosedLaws.{closed-length, closed-place, closed-keeps, open-at, shut-metres, shut-exposure, shut-ways, route-alike}
 use Rattle.closed.specs.Turned.{turnedAt, withEnds, turnedIn}
 
 -- ---- the bytes of one arc's ends written over
@@ -212,8 +216,36 @@ module _ (closed terminal head : ℕ) (arcs : List Arc) (low : LowHeads arcs) wh
       map-alike f g e [] = refl
       map-alike f g e (l ∷ ls) = ap₂ (λ (r : Route) (rs : List Route). r ∷ rs) (e l) (map-alike f g e ls)
 
+  -- a list of open arcs meets the same nodes
+  turned-nodes : (v : ℕ) {ks : List ℕ} {to : ℕ} → Way arcs v to ks → AllOpen closed ks → nodesFrom (turnedIn closed terminal head arcs) v ks ≡ nodesFrom (shutIn closed arcs) v ks
+  unfolding nodesFrom
+  turned-nodes v (Way.there e) all = refl
+  turned-nodes v (Way.over {k = k} {ks = ks} h t w) all =
+      let own = all k (List·Memᴰ·head refl) in
+      let here : arcAt (turnedIn closed terminal head arcs) k ≡ arcAt arcs k = rw own at (closed-place (λ a. withEnds a terminal head) closed arcs k h) in
+      let there = open-at closed arcs k h own in
+      ap (λ (l : List ℕ). v ∷ l)
+      (ap (λ (a : Arc). nodesFrom (turnedIn closed terminal head arcs) (a .head) ks) here ∙ turned-nodes (arcAt arcs k .head) w (λ j m. all j (List·Memᴰ·tail m))
+      ∙ ap (λ (a : Arc). nodesFrom (shutIn closed arcs) (a .head) ks) (sym there))
+
 -- the ranking over arcs of which the closed ones are turned round is that over open arcs
 pub ranking-turned : (closed head : ℕ) (arcs : List Arc) (q : Request) → LowHeads arcs → q .source ≤ lastNode
     → ranking (meshOver (turnedIn closed (q .terminal) head arcs) q) ≡ ranking (meshOver (shutIn closed arcs) q)
 unfolding ranking
 ranking-turned closed head arcs q low node = ap (λ (l : List Route). sortBy precedes (keep (within (q .reach)) l)) (routes-same closed (q .terminal) head arcs low (q .source) node)
+
+-- and the same pairs of its routes are apart
+pub judges-turned : (closed head : ℕ) (arcs : List Arc) (q : Request) (only : Bool) → LowHeads arcs → q .source ≤ lastNode → {r s : Route}
+    → List·Memᴰ r (ranking (meshOver (shutIn closed arcs) q)) → List·Memᴰ s (ranking (meshOver (shutIn closed arcs) q))
+    → judges (meshOver (turnedIn closed (q .terminal) head arcs) q) only (pair r s) ≡ judges (meshOver (shutIn closed arcs) q) only (pair r s)
+unfolding routeOf
+judges-turned closed head arcs q only low node {r} {s} x y =
+    judges-same (meshOver (turnedIn closed (q .terminal) head arcs) q) (meshOver (shutIn closed arcs) q) only refl refl (pair r s) (nodes (ranking-out (meshOver (shutIn closed arcs) q) x)) (nodes (ranking-out (meshOver (shutIn closed arcs) q) y))
+  where
+    nodes : {t : Route} → Listed (meshOver (shutIn closed arcs) q) t → nodesFrom (turnedIn closed (q .terminal) head arcs) (q .source) (t .arcs) ≡ nodesFrom (shutIn closed arcs) (q .source) (t .arcs)
+    nodes {t} o =
+        let w = shut-ways closed arcs low node (o .list) .0 (o .route .path .way) in
+        subst (λ (l : List ℕ). nodesFrom (turnedIn closed (q .terminal) head arcs) (q .source) l ≡ nodesFrom (shutIn closed arcs) (q .source) l) (own (o .is)) (turned-nodes closed (q .terminal) head arcs low (q .source) (w .0) (w .1))
+      where
+        own : t ≡ routeOf (shutIn closed arcs) (o .list) → o .list ≡ t .arcs
+        own e = sym (ap (λ (u : Route). u .arcs) e)

@@ -11,15 +11,18 @@ use lib.Seq.{getD-set-same, getD-set-other}
 use Rattle.laws.specs.Sets.{bit}
 use Rattle.laws.proofs.SetLaws.{bit-or}
 use Rattle.problem.specs.declared.Exposure.{Exposure}
+use Rattle.problem.specs.Routes.{Mesh}
 use Rattle.exposure.specs.Words.{exposureWords, putAt}
 use Rattle.exposure.proofs.WordLaws.{inside-at, put-length, put-same, put-before, put-behind, exposure-same}
 use Rattle.net.specs.Net.{Net, wordAt, meshIn}
-use Rattle.net.proofs.SearchLaws.{from-source}
+use Rattle.net.specs.Search.{noArc}
+use Rattle.bars.specs.declared.Barred.{Barred}
+use Rattle.bars.specs.Bars.{barred}
 use Rattle.keys.specs.Keys.{raised}
 use Rattle.keys.proofs.BoundLaws.{raised-more}
-use Rattle.standby.specs.Standby.{offered, leastKey}
-use Rattle.standby.specs.Ahead.{quest, NoneBelow, leastOf}
+use Rattle.standby.specs.Ahead.{Quest, quest, NoneBelow, leastOf}
 use Rattle.labels.specs.Labels.{Frame}
+use Rattle.standby.proofs.AvoidLaws.{milder-same, milder-nodes}
 use Rattle.standby.proofs.AheadLaws.{none-below-least, least-raised, none-below-core}
 use Rattle.cores.specs.Cores.{ownWords, coreCountAt, coresFrom, coreWords, coreCount, placeOf, coreMain, coreNodes, CoreHolds, Sized, Stored, Covered, CoresKept, Placed, CorePut, Remembers}
 
@@ -32,38 +35,33 @@ stored-none net store l e = record {
 
 -- ---- what a core says
 
-module _ (net store : List ℕ) (main : Exposure) (nodes bound : ℕ) (s : Stored net store) where
-  covered-below : Covered store main nodes bound → NoneBelow (quest (meshIn net) main nodes) bound
+module _ (net store : List ℕ) (main : Exposure) (off : Barred) (bound : ℕ) (words : Net net) (s : Stored net store) where
+  covered-below : Covered store main (off .nodes) bound → NoneBelow (quest (meshIn net) main off) bound
   covered-below c =
       let at = placeOf (c .number) in
       let f = c .covers in
-      none-below-core (meshIn net) (coreMain store at) main (coreNodes store at) nodes (inside-at (coreMain store at) main (f .main-inside)) (among (coreNodes store at) (f .nodes-inside)) (f .no-smaller)
+      none-below-core (meshIn net) (coreMain store at) main (barred (coreNodes store at) noArc) off (inside-at (coreMain store at) main (f .main-inside))
+      (milder-nodes (meshIn net) (coreNodes store at) off (omega (arith, words .few)) (among (coreNodes store at) (f .nodes-inside))) (f .no-smaller)
       (s .held (c .number) (c .counted))
     where
-      among : (fewer : ℕ) → bitOr fewer nodes ≡ nodes → (u : ℕ) → bit fewer u ≤ bit nodes u
-      among fewer e u = omega (arith, bit-or fewer nodes u, ap (λ (x : ℕ). bit x u) e)
+      among : (fewer : ℕ) → bitOr fewer (off .nodes) ≡ off .nodes → (u : ℕ) → bit fewer u ≤ bit (off .nodes) u
+      among fewer e u = omega (arith, bit-or fewer (off .nodes) u, ap (λ (x : ℕ). bit x u) e)
 
-  pub covered-least : Covered store main nodes bound → bound ≡ leastOf (quest (meshIn net) main nodes) bound
-  covered-least c = sym (none-below-least (quest (meshIn net) main nodes) (covered-below c))
+  pub covered-least : Covered store main (off .nodes) bound → bound ≡ leastOf (quest (meshIn net) main off) bound
+  covered-least c = sym (none-below-least (quest (meshIn net) main off) (covered-below c))
 
--- a smaller bound holds too
-pub below-smaller : (net : List ℕ) (main : Exposure) (nodes : ℕ) {x y : ℕ} → y ≤ x → NoneBelow (quest (meshIn net) main nodes) x → NoneBelow (quest (meshIn net) main nodes) y
-below-smaller net main nodes h a = none-below-core (meshIn net) main main nodes nodes (λ r. omega arith) (λ u. omega arith) h a
+-- what a search that barred nodes alone has found is true of a core: a smaller bound holds too
+pub core-below : (m : Mesh) (core : Exposure) (nodes : ℕ) {off : Barred} {x y : ℕ} → off ≡ barred nodes noArc → y ≤ x → NoneBelow (quest m core off) x → NoneBelow (quest m core (barred nodes noArc)) y
+core-below m core nodes {off} {x} {y} e h a =
+    subst (λ (b : Barred). NoneBelow (quest m core b) y) e (none-below-core m core core off off (λ r. omega arith) (milder-same m off) h a)
 
 -- the bound that a search starts from may be raised
-pub least-plain : (net : List ℕ) → Net net → (main : Exposure) (bound metres : ℕ) {top key least : ℕ} → top ≡ raised bound metres → key ≡ leastOf (quest (meshIn net) main 0) top → least ≡ min bound key
-    → least ≡ leastKey (meshIn net) main bound
-unfolding leastOf
-least-plain net words main bound metres {top} t k l =
-    from-source net words (offered (meshIn net) main) bound refl refl refl
-    (omega (arith, k, least-raised (quest (meshIn net) main 0) {bound = bound} {top = top} (omega (arith, t, raised-more bound metres))))
+pub least-unraised : (q : Quest) (bound metres : ℕ) {top key least : ℕ} → top ≡ raised bound metres → key ≡ leastOf q top → least ≡ min bound key → least ≡ leastOf q bound
+least-unraised q bound metres {top} t k l = omega (arith, k, least-raised q {bound = bound} {top = top} (omega (arith, t, raised-more bound metres)))
 
 -- nothing is below 0
-pub least-zero : (net : List ℕ) → Net net → (main : Exposure) {bound : ℕ} → bound ≡ 0 → 0 ≡ leastKey (meshIn net) main bound
-unfolding leastOf
-least-zero net words main {bound} z =
-    from-source net words (offered (meshIn net) main) bound refl refl refl
-    (omega (arith, least-raised (quest (meshIn net) main 0) {bound = bound} {top = bound} (omega arith)))
+pub least-zero : (q : Quest) {bound : ℕ} → bound ≡ 0 → 0 ≡ leastOf q bound
+least-zero q {bound} z = omega (arith, least-raised q {bound = bound} {top = bound} (omega arith))
 
 -- ---- the cores as they were
 

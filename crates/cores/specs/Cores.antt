@@ -1,4 +1,4 @@
--- Cores, which searches leave in a store behind their labels: no standby of a main that is exposed to so much, and avoids such nodes, has a key below a bound.
+-- Cores, which searches leave in a store behind their labels: no standby of a main that is exposed to so much, and bars such nodes, has a key below a bound.
 -- Assumes nothing.
 use Prim.Native.Nat.{ℕ, _+_, _*_, _≤_, _<_}
 use mathlib.Core.Bool.{true}
@@ -10,6 +10,8 @@ use Rattle.problem.specs.declared.Exposure.{Exposure}
 use Rattle.exposure.specs.Parts.{inside}
 use Rattle.exposure.specs.Words.{exposureWords, exposureAt}
 use Rattle.net.specs.Net.{wordAt, meshIn}
+use Rattle.net.specs.Search.{noArc}
+use Rattle.bars.specs.Bars.{barred}
 use Rattle.standby.specs.Ahead.{quest, NoneBelow}
 use Rattle.labels.specs.Labels.{labelWords}
 
@@ -48,7 +50,7 @@ abbrev pub coreBound : List ℕ → ℕ → ℕ
 coreBound store at = wordAt store (at + exposureWords + 1)
 
 abbrev pub CoreHolds : (net store : List ℕ) → ℕ → Type 0
-CoreHolds net store at = NoneBelow (quest (meshIn net) (coreMain store at) (coreNodes store at)) (coreBound store at)
+CoreHolds net store at = NoneBelow (quest (meshIn net) (coreMain store at) (barred (coreNodes store at) noArc)) (coreBound store at)
 
 -- a store has room for the labels and one core, and for all the cores that it counts
 pub record Sized (store : List ℕ) : Type 0 where
@@ -101,4 +103,4 @@ pub record CorePut (at : ℕ) (main : Exposure) (nodes bound : ℕ) (before afte
 -- where the core holds, what was stored before is stored after
 pub record Remembers (main : Exposure) (nodes bound : ℕ) (before after : List ℕ) : Type 0 where
   pub size-same : length after ≡ length before
-  pub stored : (net : List ℕ) → Stored net before → NoneBelow (quest (meshIn net) main nodes) bound → Stored net after
+  pub stored : (net : List ℕ) → Stored net before → NoneBelow (quest (meshIn net) main (barred nodes noArc)) bound → Stored net after

@@ -1,13 +1,16 @@
 // What searches for standbys taught, remembered in a lent store behind the labels: cores. A core says that no standby of any main that is exposed to so much, and
-// bans such nodes, has a key below a bound; so a main that a core covers need not be searched for. Whatever a store remembers, the answers are the same.
+// bars such nodes, has a key below a bound; so a main that a core covers need not be searched for. Whatever a store remembers, the answers are the same.
+use bars::Barred;
+use bars::NO_ARC;
 use problem::Exposure;
 ghost use mathlib.Core.Path.{_≡_};
 ghost use mathlib.Core.Bool.{true};
 ghost use Prim.Native.Nat.{_+_, _≤_, _<_};
 ghost use lib.ListN.{length};
-ghost use Rattle.problem.specs.Table.{hazards};
+ghost use Rattle.problem.specs.Table.{hazards, lastNode};
 ghost use Rattle.net.specs.Net.{Net, meshIn};
-ghost use Rattle.standby.specs.Standby.{leastKey};
+ghost use Rattle.net.specs.Search.{noArc};
+ghost use Rattle.bars.specs.Bars.{barred};
 ghost use Rattle.standby.specs.Ahead.{quest, NoneBelow, leastOf};
 ghost use Rattle.cores.specs.Cores.{coresFrom, coreWords, mostWords, placeOf, Sized, Stored, Covers, Covered, CoresKept, Placed, CorePut, Remembers};
 
@@ -103,6 +106,16 @@ fn spend(store: &mut [u64])
     store[SPENT] = laws::sum_up_to(store[SPENT], work, MOST_COUNTED);
 }
 
+// Standbys keep off these nodes, and may end with any arc.
+fn off_nodes(nodes: u64) -> Barred
+    ensures { λ r. ⌜ r ≡ barred nodes noArc ⌝ }
+{
+    Barred {
+        nodes: nodes,
+        last: NO_ARC,
+    }
+}
+
 // A core without r, if a search says that it holds without it.
 fn leave_out(
     net: &[u64; net::SIZE],
@@ -112,15 +125,22 @@ fn leave_out(
     bound: u64,
     r: u8,
 ) -> Exposure
-    requires { ⌜ Net (now net) × (coresFrom ≤ length (now store)) × (r < hazards) × NoneBelow (quest (meshIn (now net)) core nodes) bound ⌝ }
-    ensures holds { λ o. ⌜ NoneBelow (quest (meshIn (now (net .entry))) o nodes) bound ⌝ }
+    requires { ⌜ Net (now net) × (coresFrom ≤ length (now store)) × (r < hazards) × NoneBelow (quest (meshIn (now net)) core (barred nodes noArc)) bound ⌝ }
+    ensures holds { λ o. ⌜ NoneBelow (quest (meshIn (now (net .entry))) o (barred nodes noArc)) bound ⌝ }
     ensures kept { λ _. ⌜ CoresKept (now (store .entry)) (now (store .exit)) ⌝ }
 {
     if !exposure::is_exposed(core, r) {
         return core;
     }
     let less = exposure::all_but(core, r);
-    let key = plain::search(net, store, less, standby::door(net, less), nodes, bound);
+    let key = plain::search(
+        net,
+        store,
+        less,
+        standby::door(net, less),
+        off_nodes(nodes),
+        bound,
+    );
     spend(store);
     if key < bound {
         return core;
@@ -136,8 +156,8 @@ fn smaller_core(
     nodes: u64,
     bound: u64,
 ) -> Exposure
-    requires { ⌜ Net (now net) × (coresFrom ≤ length (now store)) × NoneBelow (quest (meshIn (now net)) main nodes) bound ⌝ }
-    ensures holds { λ o. ⌜ NoneBelow (quest (meshIn (now (net .entry))) o nodes) bound ⌝ }
+    requires { ⌜ Net (now net) × (coresFrom ≤ length (now store)) × NoneBelow (quest (meshIn (now net)) main (barred nodes noArc)) bound ⌝ }
+    ensures holds { λ o. ⌜ NoneBelow (quest (meshIn (now (net .entry))) o (barred nodes noArc)) bound ⌝ }
     ensures kept { λ _. ⌜ CoresKept (now (store .entry)) (now (store .exit)) ⌝ }
 {
     let mut core = main;
@@ -147,6 +167,59 @@ fn smaller_core(
         r += 1;
     }
     core
+}
+
+// The nodes that a core bars without v, if a search says that it holds without it.
+fn leave_node(
+    net: &[u64; net::SIZE],
+    store: &mut [u64; OWN_WORDS],
+    core: Exposure,
+    nodes: u64,
+    bound: u64,
+    v: u8,
+) -> u64
+    requires { ⌜ Net (now net) × (coresFrom ≤ length (now store)) × (v ≤ lastNode) × NoneBelow (quest (meshIn (now net)) core (barred nodes noArc)) bound ⌝ }
+    ensures holds { λ o. ⌜ NoneBelow (quest (meshIn (now (net .entry))) core (barred o noArc)) bound ⌝ }
+    ensures kept { λ _. ⌜ CoresKept (now (store .entry)) (now (store .exit)) ⌝ }
+{
+    if !sets::has(nodes, v) {
+        return nodes;
+    }
+    let fewer = sets::without(nodes, sets::with(0, v));
+    let key = plain::search(
+        net,
+        store,
+        core,
+        standby::door(net, core),
+        off_nodes(fewer),
+        bound,
+    );
+    spend(store);
+    if key < bound {
+        return nodes;
+    }
+    fewer
+}
+
+// Fewer nodes with which the core holds as well: each is left out in turn, where that does no harm. A core without nodes covers mains that go anywhere.
+fn fewer_nodes(
+    net: &[u64; net::SIZE],
+    store: &mut [u64; OWN_WORDS],
+    core: Exposure,
+    nodes: u64,
+    bound: u64,
+) -> u64
+    requires { ⌜ Net (now net) × (coresFrom ≤ length (now store)) × NoneBelow (quest (meshIn (now net)) core (barred nodes noArc)) bound ⌝ }
+    ensures holds { λ o. ⌜ NoneBelow (quest (meshIn (now (net .entry))) core (barred o noArc)) bound ⌝ }
+    ensures kept { λ _. ⌜ CoresKept (now (store .entry)) (now (store .exit)) ⌝ }
+{
+    let mut left = nodes;
+    let mut v: u8 = 0;
+    while v <= problem::LAST_NODE {
+        left = leave_node(net, store, core, left, bound, v);
+        v += 1;
+    }
+    left
 }
 
 // A place for one core more, or, where there is no room, that of an old one, each in turn.
@@ -181,19 +254,19 @@ fn remember(store: &mut [u64], main: Exposure, nodes: u64, bound: u64)
     put_core(store, at, main, nodes, bound);
 }
 
-// The least of `bound` and the keys of all standbys of a main that is exposed to this, that meet none of these nodes.
+// The least of `bound` and the keys of all standbys of a main that is exposed to this, that keep off what is barred.
 fn best(
     net: &[u64; net::SIZE],
     store: &mut [u64; OWN_WORDS],
     main: Exposure,
-    nodes: u64,
+    off: Barred,
     bound: u64,
 ) -> u64
     requires { ⌜ Net (now net) × Stored (now net) (now store) ⌝ }
-    ensures least { λ r. ⌜ r ≡ leastOf (quest (meshIn (now (net .entry))) main nodes) bound ⌝ }
+    ensures least { λ r. ⌜ r ≡ leastOf (quest (meshIn (now (net .entry))) main off) bound ⌝ }
     ensures stored { λ _. ⌜ Stored (now (net .entry)) (now (store .exit)) ⌝ }
 {
-    if covered(store, main, nodes, bound) {
+    if covered(store, main, off.nodes, bound) {
         return bound;
     }
     let door = standby::door(net, main);
@@ -201,31 +274,37 @@ fn best(
     if bound <= keys::standby_key(door, shortest) {
         return bound;
     }
-    let key = plain::search(net, store, main, door, nodes, bound);
+    let key = plain::search(net, store, main, door, off, bound);
+    // What holds of the standbys that do not end with one arc says nothing of the others.
+    if off.last != NO_ARC {
+        return key;
+    }
     if !is_due(store) {
         return key;
     }
-    let core = smaller_core(net, store, main, nodes, key);
+    let core = smaller_core(net, store, main, off.nodes, key);
+    let nodes = fewer_nodes(net, store, core, off.nodes, key);
     remember(store, core, nodes, key);
     key
 }
 
-// The least of `bound` and the keys of all standbys of a main that is exposed to this. No standby is shorter than the shortest way, so a bound below that length is
-// raised to it: more mains are then covered by the same core.
+// The least of `bound` and the keys of all standbys of a main that is exposed to this, that keep off what is barred. No standby is shorter than the shortest way,
+// so a bound below that length is raised to it: more mains are then covered by the same core.
 pub fn best_key(
     net: &[u64; net::SIZE],
     store: &mut [u64; OWN_WORDS],
     main: Exposure,
+    off: Barred,
     bound: u64,
 ) -> u64
     requires { ⌜ Net (now net) × Stored (now net) (now store) ⌝ }
-    ensures least { λ r. ⌜ r ≡ leastKey (meshIn (now (net .entry))) main bound ⌝ }
+    ensures least { λ r. ⌜ r ≡ leastOf (quest (meshIn (now (net .entry))) main off) bound ⌝ }
     ensures stored { λ _. ⌜ Stored (now (net .entry)) (now (store .exit)) ⌝ }
 {
     if bound == 0 {
         return 0;
     }
     let top = keys::raised(bound, net::lower(net, net::source(net)));
-    let key = best(net, store, main, 0, top);
+    let key = best(net, store, main, off, top);
     laws::smaller(bound, key)
 }

@@ -4,3 +4,4 @@ pub mod OutcomeLaws
 pub mod PutLaws
 pub mod RunLaws
 pub mod TrackLaws
+pub mod BarredLaws

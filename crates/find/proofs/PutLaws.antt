@@ -14,7 +14,7 @@ use Rattle.problem.specs.declared.Arc.{Arc}
 use Rattle.problem.specs.Table.{mostAllowance}
 use Rattle.problem.specs.Routes.{Mesh, Route, routeOf}
 use Rattle.net.specs.declared.Behind.{Behind}
-use Rattle.net.specs.Net.{wordAt, arcsIn, meshIn}
+use Rattle.net.specs.Net.{wordAt, arcsIn, meshIn, apartOnly}
 use Rattle.find.specs.declared.Want.{Want}
 use Rattle.find.specs.Find.{isWanted, Sought}
 use Rattle.find.specs.Run.{metresAt, mainAt, passedAt, countAt, putFrom, places, runSize, wantIn, arcsDown, arcsFound, soughtSoFar, UnderWay, Kept, PutDown, ArcsKnown, Meets}
@@ -30,7 +30,7 @@ kept-on k l = record { size = l .size ∙ k .size; want = l .want ∙ k .want }
 
 -- a word written behind it
 kept-written : (run : List ℕ) (i x : ℕ) → mainAt < i → Kept run (set run i x)
-kept-written run i x h = record { size = length-set run i x; want = rw (same 0 (omega arith), same 1 (omega arith), same 2 (omega arith), same 3 (omega arith), same 4 (omega arith), same 5 (omega arith)) }
+kept-written run i x h = record { size = length-set run i x; want = rw (same 0 (omega arith), same 1 (omega arith), same 2 (omega arith), same 3 (omega arith), same 4 (omega arith), same 5 (omega arith), same 6 (omega arith), same 7 (omega arith)) }
   where
     same : (j : ℕ) → j ≤ mainAt → wordAt (set run i x) j ≡ wordAt run j
     same j l = getD-set-other run i j x 0 (λ e. omega arith)
@@ -124,6 +124,9 @@ none-so-far arcs run e = rw (none-found run e, le-ltb 0 (wordAt run countAt) (om
 
 -- arc k ends a route that is the wanted one, or is not, by the test b of what is wanted
 module _ (net : List ℕ) (k : ℕ) (route : Behind) {run : List ℕ} (u : UnderWay run) where
+  abbrev only : Bool
+  only = apartOnly net
+
   abbrev m : Mesh
   m = meshIn net
 
@@ -135,18 +138,18 @@ module _ (net : List ℕ) (k : ℕ) (route : Behind) {run : List ℕ} (u : Under
 
   pub met-other : (route .metres ≡ wordAt run metresAt → ⊥) → Meets net k route run run
   met-other ne =
-      record { kept = kept-same run; known = known-none net run 1 (u .none-yet); sought = sym (meet-other m (wantIn run) so-far (route .metres) (route .exposure) (k ∷ []) ne) }
+      record { kept = kept-same run; known = known-none net run 1 (u .none-yet); sought = sym (meet-other only m (wantIn run) so-far route k (k ∷ []) ne) }
 
-  module _ {x : Want} (is : x ≡ wantIn run) {b : Bool} (test : b ≡ isWanted (meshIn net) x (route .exposure)) where
-    tested : b ≡ isWanted m (wantIn run) (route .exposure)
-    tested = test ∙ ap (λ (y : Want). isWanted m y (route .exposure)) is
+  module _ {x : Want} (is : x ≡ wantIn run) {b : Bool} (test : b ≡ isWanted (apartOnly net) (meshIn net) x route k) where
+    tested : b ≡ isWanted only m (wantIn run) route k
+    tested = test ∙ ap (λ (y : Want). isWanted only m y route k) is
 
     pub met-standby : x .as_main ≡ false → b ≡ false → Meets net k route run run
     met-standby standby fails =
         record {
           kept = kept-same run;
           known = known-none net run 1 (u .none-yet);
-          sought = sym (meet-standby m (wantIn run) so-far (route .metres) (route .exposure) (k ∷ []) (ap (λ (y : Want). y .as_main) (sym is) ∙ standby) (λ e. sym tested ∙ fails));
+          sought = sym (meet-standby only m (wantIn run) so-far route k (k ∷ []) (ap (λ (y : Want). y .as_main) (sym is) ∙ standby) (λ e. sym tested ∙ fails));
         }
 
     module _ (same : route .metres ≡ wordAt run metresAt) where
@@ -155,7 +158,7 @@ module _ (net : List ℕ) (k : ℕ) (route : Behind) {run : List ℕ} (u : Under
           record {
             kept = p .kept;
             known = known-more p (known-none net run 0 (u .none-yet)) inside;
-            sought = put-first m p (u .none-yet) ∙ sym (meet-wanted m (wantIn run) so-far (route .metres) (route .exposure) (k ∷ []) open-yet same (sym tested ∙ passes));
+            sought = put-first m p (u .none-yet) ∙ sym (meet-wanted only m (wantIn run) so-far route k (k ∷ []) open-yet same (sym tested ∙ passes));
           }
 
       pub met-passed : x .as_main ≡ true → b ≡ false → {p : ℕ} → p ≡ min (wordAt run passedAt + 1) mostAllowance → Meets net k route run (set run passedAt p)
@@ -166,7 +169,7 @@ module _ (net : List ℕ) (k : ℕ) (route : Behind) {run : List ℕ} (u : Under
             sought =
                 none-so-far (arcsIn net) (set run passedAt p) none
                 ∙ ap₂ (λ (n : ℕ) (r : Route). record { found = false; passed = n; route = r }) (getD-set-same run passedAt p 0 (omega (arith, u .size))) (ap (routeOf (arcsIn net)) (sym (none-found run (u .none-yet))))
-                ∙ sym (meet-passed m (wantIn run) so-far (route .metres) (route .exposure) (k ∷ []) open-yet same (ap (λ (y : Want). y .as_main) (sym is) ∙ main) (sym tested ∙ fails) q);
+                ∙ sym (meet-passed only m (wantIn run) so-far route k (k ∷ []) open-yet same (ap (λ (y : Want). y .as_main) (sym is) ∙ main) (sym tested ∙ fails) q);
           }
         where
           none : wordAt (set run passedAt p) countAt ≡ 0

@@ -1,14 +1,14 @@
 -- A search whose words say what is wanted and what is found: what each kind of arc does to it, and what it has found at the end. What is wanted stays as it
 -- was, so what an arc does to a search (`SeekLaws`) it does to what the words say. Assumes nothing.
 use mathlib.Core.Path.{_≡_, sym, ap, _∙_, subst}
-use mathlib.Core.Bool.{true, false}
+use mathlib.Core.Bool.{Bool, true, false}
 use mathlib.Core.List.{List, [], _∷_}
 use Prim.Native.Nat.{ℕ, suc, _+_, _≤_, _<_}
 use native.Mathlib.Omega.{arith}
 use lib.ListN.{length}
 use borrow.Author.Tests.{lt-ltb, le-ltb}
 use Rattle.laws.specs.Sets.{bit, with, unmet}
-use Rattle.laws.proofs.SetLaws.{unmet-le, unmet-with}
+use Rattle.laws.proofs.SetLaws.{bit-with, unmet-le, unmet-with}
 use Rattle.problem.specs.declared.Arc.{Arc}
 use Rattle.problem.specs.Table.{lastNode}
 use Rattle.problem.specs.Exposures.{ofArc, joined}
@@ -17,7 +17,7 @@ use Rattle.problem.proofs.TableLaws.{sound-at}
 use Rattle.problem.proofs.GrowthLaws.{left-start, left-end}
 use Rattle.chain.specs.Chain.{Next}
 use Rattle.net.specs.declared.Behind.{Behind}
-use Rattle.net.specs.Net.{firstFrom, lowerFrom, wordAt, nextOf, arcsIn, meshIn}
+use Rattle.net.specs.Net.{firstFrom, lowerFrom, wordAt, nextOf, arcsIn, meshIn, apartOnly}
 use Rattle.net.specs.Search.{onto}
 use Rattle.net.proofs.NetLaws.{left-next}
 use Rattle.labels.specs.Labels.{Shorter}
@@ -39,14 +39,14 @@ pub record Rest (net : List ℕ) (at : ℕ) (b : Behind) (before run : List ℕ)
   pub here : i < length (arcsIn net) → arcAt (arcsIn net) i .tail ≡ at
   pub kept : Kept before run
   pub left : Sure (meshIn net) (wantIn before)
-      → Left (meshIn net) (wantIn before) at b i (soughtSoFar (arcsIn net) run) ≡ soughtFrom (meshIn net) (wantIn before) at b (soughtSoFar (arcsIn net) before)
+      → Left (apartOnly net) (meshIn net) (wantIn before) at b i (soughtSoFar (arcsIn net) run) ≡ soughtFrom (apartOnly net) (meshIn net) (wantIn before) at b (soughtSoFar (arcsIn net) before)
 
 pub rest-start : {net run : List ℕ} {at : ℕ} {b : Behind} → Finding net run at b → Rest net at b run run (wordAt net (firstFrom + at))
 rest-start {net} {run} {at} {b} ready =
     let f = ready .words .first at (ready .node) in
     let m = meshIn net in
     let s = soughtSoFar (arcsIn net) run in
-    let visit = seek m (wantIn run) b in
+    let visit = seek (apartOnly net) m (wantIn run) b in
     record {
       inside = f .to;
       here = f .here;
@@ -57,6 +57,9 @@ rest-start {net} {run} {at} {b} ready =
     }
 
 module _ {net : List ℕ} {at : ℕ} {b : Behind} {before run : List ℕ} {i : ℕ} (r : Rest net at b before run i) where
+  abbrev only : Bool
+  only = apartOnly net
+
   abbrev m : Mesh
   m = meshIn net
 
@@ -69,7 +72,7 @@ module _ {net : List ℕ} {at : ℕ} {b : Behind} {before run : List ℕ} {i : �
       record {
         kept = r .kept;
         known = known-none net run _ (u .none-yet);
-        sought = λ sure. sym (left-end (m .arcs) (m .terminal) (seek m w b) (unmet 32 (b .met)) (b .met) at i (soughtSoFar (arcsIn net) run) h) ∙ r .left sure;
+        sought = λ sure. sym (left-end (m .arcs) (m .terminal) (seek only m w b) (unmet 32 (b .met)) (b .met) at i (soughtSoFar (arcsIn net) run) h) ∙ r .left sure;
       }
 
   -- once the route is found the rest may be left out
@@ -78,7 +81,7 @@ module _ {net : List ℕ} {at : ℕ} {b : Behind} {before run : List ℕ} {i : �
       record {
         kept = r .kept;
         known = l;
-        sought = λ sure. sym (left-found m w at b i (soughtSoFar (arcsIn net) run) (lt-ltb 0 (wordAt run countAt) h)) ∙ r .left sure;
+        sought = λ sure. sym (left-found only m w at b i (soughtSoFar (arcsIn net) run) (lt-ltb 0 (wordAt run countAt) h)) ∙ r .left sure;
       }
 
   -- else the search goes on
@@ -127,33 +130,33 @@ module _ {net : List ℕ} {at : ℕ} {b : Behind} {before run store : List ℕ} 
   want-is : {x : Want} → x ≡ wantIn run → x ≡ wantIn before
   want-is e = e ∙ want-same
 
-  turn : {run′ : List ℕ} → Kept run run′ → (Sure (meshIn net) (wantIn before) → Left (meshIn net) (wantIn before) at b i sofar ≡ Left (meshIn net) (wantIn before) at b next (soughtSoFar (arcsIn net) run′))
+  turn : {run′ : List ℕ} → Kept run run′ → (Sure (meshIn net) (wantIn before) → Left (apartOnly net) (meshIn net) (wantIn before) at b i sofar ≡ Left (apartOnly net) (meshIn net) (wantIn before) at b next (soughtSoFar (arcsIn net) run′))
       → Rest net at b before run′ next
   turn k e = record { inside = next-arc .to; here = next-arc .here; kept = kept-on (h .rest .kept) k; left = λ sure. sym (e sure) ∙ h .rest .left sure }
 
   pub rest-met : g ≡ Met → Rest net at b before run (nextOf net i)
   rest-met e =
       turn (kept-same run)
-      (λ sure. left-met (meshIn net) (wantIn before) at b i next sofar (h .inside) next-arc (met-is (meshIn net .terminal) (wordAt run metresAt) lower b arc (sym (h .seen) ∙ e)))
+      (λ sure. left-met (apartOnly net) (meshIn net) (wantIn before) at b i next sofar (h .inside) next-arc (met-is (meshIn net .terminal) (wordAt run metresAt) lower b arc (sym (h .seen) ∙ e)))
 
   pub rest-past : {to : ℕ} → g ≡ Past to → Rest net at b before run (nextOf net i)
   rest-past e =
       let p = past-is (meshIn net .terminal) (wordAt run metresAt) lower b arc (sym (h .seen) ∙ e) in
       turn (kept-same run)
-      (λ sure. left-far (meshIn net) (wantIn before) at b i next sofar (h .inside) next-arc lower (λ ks x. h .start .words .lower (arc .head) head-node x)
+      (λ sure. left-far (apartOnly net) (meshIn net) (wantIn before) at b i next sofar (h .inside) next-arc lower (λ ks x. h .start .words .lower (arc .head) head-node x)
       (omega (arith, p .past-end, ap (λ (x : Want). x .metres) want-same)))
 
   pub rest-ends : {e : Behind} → g ≡ Ends e → {run′ : List ℕ} → Meets net i e run run′ → Rest net at b before run′ (nextOf net i)
   rest-ends {e} q {run′} x = go (ends-is (meshIn net .terminal) (wordAt run metresAt) lower b arc (sym (h .seen) ∙ q))
     where
-      same : e ≡ onto b arc → meet (meshIn net) (wantIn before) sofar (b .metres + arc .metres) (joined (b .exposure) (ofArc arc)) (i ∷ []) ≡ soughtSoFar (arcsIn net) run′
+      same : e ≡ onto b arc → meet (apartOnly net) (meshIn net) (wantIn before) sofar (onto b arc) i (i ∷ []) ≡ soughtSoFar (arcsIn net) run′
       same p = sym (x .sought ∙ rw (want-same, p))
 
       go : Ending (meshIn net .terminal) (wordAt run metresAt) lower b arc e → Rest net at b before run′ next
       go o =
           turn (x .kept)
-          (λ sure. left-ends (meshIn net) (wantIn before) at b i next sofar (h .inside) next-arc (o .new) (h .rest .here (h .inside)) (o .at-terminal)
-          ∙ ap (Left (meshIn net) (wantIn before) at b next) (same (o .is)))
+          (λ sure. left-ends (apartOnly net) (meshIn net) (wantIn before) at b i next sofar (h .inside) next-arc (o .new) (h .rest .here (h .inside)) (o .at-terminal)
+          ∙ ap (Left (apartOnly net) (meshIn net) (wantIn before) at b next) (same (o .is)))
 
   -- the store, once the route was tested
   pub trails-tested : {store′ : List ℕ} → (wantIn run .as_main ≡ false → store′ ≡ store) → Trails (meshIn net) (wantIn before) store′
@@ -175,24 +178,28 @@ module _ {net : List ℕ} {at : ℕ} {b : Behind} {before run store : List ℕ} 
     pub leads-fewer : unmet 32 (b .met) ≡ suc (unmet 32 (e .met))
     leads-fewer = fewer-met (o .new) ∙ ap (λ (x : Behind). suc (unmet 32 (x .met))) (sym (o .is))
 
-    came : Trail (meshIn net) (wantIn before .main) at′ (e .metres) (e .exposure)
+    -- it is not barred, as it was not met
+    came : Trail (meshIn net) (wantIn before .main) (wantIn before .off) at′ (e .metres) (e .exposure)
     came = there (o .head-is) (o .is)
       where
-        there : at′ ≡ arc .head → e ≡ onto b arc → Trail (meshIn net) (wantIn before .main) at′ (e .metres) (e .exposure)
-        there p x = rw (p, x) (trail-over (meshIn net) (wantIn before .main) (b .exposure) i (h .start .came) (h .inside) (h .rest .here (h .inside)))
+        free : bit (wantIn before .off .nodes) (arc .head) ≡ 0
+        free = omega (arith, h .start .barred-met (arc .head), o .new)
+
+        there : at′ ≡ arc .head → e ≡ onto b arc → Trail (meshIn net) (wantIn before .main) (wantIn before .off) at′ (e .metres) (e .exposure)
+        there p x = rw (p, x) (trail-over (meshIn net) (wantIn before .main) (wantIn before .off) (b .exposure) i (h .start .came) (h .inside) (h .rest .here (h .inside)) free (o .goes-on))
 
     -- it is left out: what goes over it shares too much
     pub rest-much : {x : Want} → x ≡ wantIn run → sharesTooMuch x (e .exposure) ≡ true → Rest net at b before run (nextOf net i)
     rest-much {x} is much =
         turn (kept-same run)
-        (λ sure. left-much (meshIn net) (wantIn before) at b i next sofar (h .inside) next-arc
+        (λ sure. left-much (apartOnly net) (meshIn net) (wantIn before) at b i next sofar (h .inside) next-arc
         (sym (ap (λ (y : Behind). sharesTooMuch (wantIn before) (y .exposure)) (o .is)) ∙ ap (λ (y : Want). sharesTooMuch y (e .exposure)) (sym (want-is is)) ∙ much))
 
     -- or comes late to its head
     pub rest-late : {x : Want} → x ≡ wantIn run → (x .as_main ≡ false) × Shorter store at′ (e .metres) (e .exposure) → Rest net at b before run (nextOf net i)
     rest-late {x} is late =
         turn (kept-same run)
-        (λ sure. left-late (meshIn net) (wantIn before) at b i next sofar (h .inside) next-arc sure (ap (λ (y : Want). y .as_main) (sym (want-is is)) ∙ late .0) (h .trails) head-node (same (o .head-is) (o .is)))
+        (λ sure. left-late (apartOnly net) (meshIn net) (wantIn before) at b i next sofar (h .inside) next-arc sure (ap (λ (y : Want). y .as_main) (sym (want-is is)) ∙ late .0) (h .trails) (h .start .barred-met) head-node (same (o .head-is) (o .is)))
       where
         same : at′ ≡ arc .head → e ≡ onto b arc → Shorter store (arc .head) (b .metres + arc .metres) (joined (b .exposure) (ofArc arc))
         same p y = rw (← p, ap (λ (z : Behind). z .metres) (sym y), ap (λ (z : Behind). z .exposure) (sym y)) (late .1)
@@ -213,7 +220,8 @@ module _ {net : List ℕ} {at : ℕ} {b : Behind} {before run store : List ℕ} 
           node = leads-node;
           goes-on = λ x. o .goes-on (sym (o .head-is) ∙ x);
           not-past = omega (arith, o .inside, ap (λ (x : Behind). x .metres) (o .is));
-          came = subst (λ (x : Want). Trail (meshIn net) (x .main) at′ (e .metres) (e .exposure)) (sym want-same) came;
+          barred-met = λ u. omega (arith, ap (λ (x : Want). bit (x .off .nodes) u) want-same, h .start .barred-met u, bit-with (b .met) (arc .head) u, ap (λ (x : Behind). bit (x .met) u) (o .is));
+          came = subst (λ (x : Want). Trail (meshIn net) (x .main) (x .off) at′ (e .metres) (e .exposure)) (sym want-same) came;
         }
 
     -- its labels
@@ -232,13 +240,13 @@ module _ {net : List ℕ} {at : ℕ} {b : Behind} {before run store : List ℕ} 
       leads-over : {run″ : List ℕ} → Kept run′ run″ → soughtSoFar (arcsIn net) run″ ≡ inFront (meshIn net) i (soughtSoFar (arcsIn net) run′) → Rest net at b before run″ next
       leads-over {run″} k x =
           turn (kept-on (s .kept) k)
-          (λ sure. left-leads (meshIn net) (wantIn before) at b i next sofar (h .inside) next-arc (o .new) (h .rest .here (h .inside)) head-node (le-ltb 0 (wordAt run countAt) (omega (arith, h .under-way .none-yet)))
-          ∙ ap (Left (meshIn net) (wantIn before) at b next) (sym (x ∙ ap (inFront (meshIn net) i) (found sure ∙ same (o .head-is) (o .is)))))
+          (λ sure. left-leads (apartOnly net) (meshIn net) (wantIn before) at b i next sofar (h .inside) next-arc (o .new) (h .rest .here (h .inside)) head-node (o .goes-on) (le-ltb 0 (wordAt run countAt) (omega (arith, h .under-way .none-yet)))
+          ∙ ap (Left (apartOnly net) (meshIn net) (wantIn before) at b next) (sym (x ∙ ap (inFront (meshIn net) i) (found sure ∙ same (o .head-is) (o .is)))))
         where
-          found : Sure (meshIn net) (wantIn before) → soughtSoFar (arcsIn net) run′ ≡ soughtFrom (meshIn net) (wantIn before) at′ e sofar
-          found sure = s .sought (subst (Sure (meshIn net)) (sym want-same) sure) ∙ ap (λ (x : Want). soughtFrom (meshIn net) x at′ e sofar) want-same
+          found : Sure (meshIn net) (wantIn before) → soughtSoFar (arcsIn net) run′ ≡ soughtFrom (apartOnly net) (meshIn net) (wantIn before) at′ e sofar
+          found sure = s .sought (subst (Sure (meshIn net)) (sym want-same) sure) ∙ ap (λ (x : Want). soughtFrom (apartOnly net) (meshIn net) x at′ e sofar) want-same
 
-          same : at′ ≡ arc .head → e ≡ onto b arc → soughtFrom (meshIn net) (wantIn before) at′ e sofar ≡ soughtFrom (meshIn net) (wantIn before) (arc .head) (onto b arc) sofar
+          same : at′ ≡ arc .head → e ≡ onto b arc → soughtFrom (apartOnly net) (meshIn net) (wantIn before) at′ e sofar ≡ soughtFrom (apartOnly net) (meshIn net) (wantIn before) (arc .head) (onto b arc) sofar
           same p q = rw (p, q)
 
       pub leads-none : wordAt run′ countAt ≤ 0 → Rest net at b before run′ (nextOf net i)

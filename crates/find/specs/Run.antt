@@ -1,15 +1,15 @@
--- A search under way in forty words: where what is wanted and what is found stand, and what the steps of the search make of them. Assumes nothing.
+-- A search under way in words: where what is wanted and what is found stand, and what the steps of the search make of them. Assumes nothing.
 use Prim.Native.Nat.{ℕ, zero, suc, _+_, _≤_, _<_}
 use mathlib.Core.List.{List, [], _∷_, List·Memᴰ}
 use mathlib.Core.Path.{_≡_}
 use lib.Dec.{ltb}
 use lib.ListN.{length}
-use Rattle.laws.specs.Sets.{unmet}
+use Rattle.laws.specs.Sets.{bit, unmet}
 use Rattle.problem.specs.declared.Arc.{Arc}
 use Rattle.problem.specs.Table.{lastNode}
 use Rattle.problem.specs.Routes.{routeOf}
 use Rattle.net.specs.declared.Behind.{Behind}
-use Rattle.net.specs.Net.{wordAt, arcsIn, meshIn, Net}
+use Rattle.net.specs.Net.{wordAt, arcsIn, meshIn, apartOnly, Net}
 use Rattle.find.specs.declared.Want.{Want}
 use Rattle.find.specs.Find.{InRange, Sure, Sought, meet, soughtFrom, Trail}
 
@@ -28,17 +28,23 @@ lowAt = 3
 abbrev pub highAt : ℕ
 highAt = 4
 
+abbrev pub nodesAt : ℕ
+nodesAt = 5
+
+abbrev pub lastAt : ℕ
+lastAt = 6
+
 abbrev pub mainAt : ℕ
-mainAt = 5
+mainAt = 7
 
 abbrev pub passedAt : ℕ
-passedAt = 6
+passedAt = 8
 
 abbrev pub countAt : ℕ
-countAt = 7
+countAt = 9
 
 abbrev pub putFrom : ℕ
-putFrom = 8
+putFrom = 10
 
 -- as many as a track has
 abbrev pub places : ℕ
@@ -54,6 +60,7 @@ wantIn run =
       metres = wordAt run metresAt;
       key = wordAt run keyAt;
       main = record { risks = wordAt run risksAt; low = wordAt run lowAt; high = wordAt run highAt };
+      off = record { nodes = wordAt run nodesAt; last = wordAt run lastAt };
       as_main = ltb 0 (wordAt run mainAt);
     }
 
@@ -107,7 +114,7 @@ pub record ArcsKnown (net run : List ℕ) (most : ℕ) : Type 0 where
 pub record Meets (net : List ℕ) (k : ℕ) (route : Behind) (before after : List ℕ) : Type 0 where
   pub kept : Kept before after
   pub known : ArcsKnown net after 1
-  pub sought : soughtSoFar (arcsIn net) after ≡ meet (meshIn net) (wantIn before) (soughtSoFar (arcsIn net) before) (route .metres) (route .exposure) (k ∷ [])
+  pub sought : soughtSoFar (arcsIn net) after ≡ meet (apartOnly net) (meshIn net) (wantIn before) (soughtSoFar (arcsIn net) before) route k (k ∷ [])
 
 -- what a search may count on at a node, with b behind it
 pub record Finding (net run : List ℕ) (at : ℕ) (b : Behind) : Type 0 where
@@ -116,11 +123,12 @@ pub record Finding (net run : List ℕ) (at : ℕ) (b : Behind) : Type 0 where
   pub node : at ≤ lastNode
   pub goes-on : at ≡ meshIn net .terminal → ⊥
   pub not-past : b .metres ≤ wordAt run metresAt
-  pub came : Trail (meshIn net) (wantIn run .main) at (b .metres) (b .exposure)
+  pub barred-met : (u : ℕ) → bit (wantIn run .off .nodes) u ≤ bit (b .met) u
+  pub came : Trail (meshIn net) (wantIn run .main) (wantIn run .off) at (b .metres) (b .exposure)
 
 -- all that grows from a node was searched, where a standby that is wanted is a best one; no more arcs are put down than there were nodes not met
 pub record Seeks (net : List ℕ) (at : ℕ) (b : Behind) (before after : List ℕ) : Type 0 where
   pub kept : Kept before after
   pub known : ArcsKnown net after (unmet 32 (b .met))
   pub sought : Sure (meshIn net) (wantIn before)
-      → soughtSoFar (arcsIn net) after ≡ soughtFrom (meshIn net) (wantIn before) at b (soughtSoFar (arcsIn net) before)
+      → soughtSoFar (arcsIn net) after ≡ soughtFrom (apartOnly net) (meshIn net) (wantIn before) at b (soughtSoFar (arcsIn net) before)

@@ -1,16 +1,19 @@
 // Finds, in depth-first order, the first route of a wanted length that passes a test, and hands back its arcs. A lent store, in which searches for standbys
 // remember what they learn, is handed on to the test; the search for a standby itself leaves labels there.
+use bars::Barred;
 use look::Leg;
 use net::Behind;
 use problem::Exposure;
 use track::Track;
 ghost use mathlib.Core.Path.{_≡_};
 ghost use mathlib.Core.Bool.{true, false};
-ghost use Prim.Native.Nat.{_+_, _<_, _≤_, min};
+ghost use mathlib.Core.List.{List·Memᴰ};
+ghost use Prim.Native.Nat.{ℕ, _+_, _<_, _≤_, min};
 ghost use lib.ListN.{length};
 ghost use Rattle.problem.specs.Table.{lastNode, mostArcs, mostReach, mostAllowance};
 ghost use Rattle.problem.specs.Routes.{arcAt, routeOf};
-ghost use Rattle.net.specs.Net.{Net, wordAt, arcsIn, meshIn};
+ghost use Rattle.net.specs.Net.{Net, wordAt, arcsIn, meshIn, apartOnly};
+ghost use Rattle.bars.specs.Bars.{barredByList};
 ghost use Rattle.labels.specs.Labels.{labelWords, Shorter};
 ghost use Rattle.cores.specs.Cores.{Stored};
 ghost use Rattle.track.specs.Track.{routeIn, Fit, Holds};
@@ -20,11 +23,13 @@ ghost use Rattle.find.specs.Run.{runSize, places, countAt, wantIn, arcsF
 // No allowance is larger (01), so more are not counted.
 const MOST_PASSED: u64 = problem::MOST_ALLOWANCE as u64;
 
-// What is wanted, a route of so many metres: as a main, one whose best standby has the key; else a standby that has it, for a main exposed to `main`.
+// What is wanted, a route of so many metres that keeps off what is barred: as a main, one whose best standby has the key; else a standby that has it, for a main
+// exposed to `main`.
 pub struct Want {
     pub metres: u64,
     pub key: u64,
     pub main: Exposure,
+    pub off: Barred,
     pub as_main: bool,
 }
 
@@ -35,22 +40,27 @@ pub struct Found {
     pub track: Track,
 }
 
-// Whether a route of the wanted length that is exposed to this is the wanted one.
+// Whether a route of the wanted length, at whose end this lies behind and which ends with arc `last`, is the wanted one.
 fn wanted(
     net: &[u64; net::SIZE],
     store: &mut [u64; cores::OWN_WORDS],
     want: Want,
-    route: Exposure,
+    route: Behind,
+    last: u64,
 ) -> bool
     requires { ⌜ Net (now net) × Stored (now net) (now store) × InRange want ⌝ }
-    ensures test { λ r. ⌜ r ≡ isWanted (meshIn (now (net .entry))) want route ⌝ }
+    ensures test { λ r. ⌜ r ≡ isWanted (apartOnly (now (net .entry))) (meshIn (now (net .entry))) want route last ⌝ }
     ensures stored { λ _. ⌜ Stored (now (net .entry)) (now (store .exit)) ⌝ }
     ensures same { λ _. ⌜ (want .as_main ≡ false → now (store .exit) ≡ now (store .entry)) ⌝ }
 {
     if want.as_main {
-        return cores::best_key(net, store, route, want.key + 1) == want.key;
+        let off = bars::barred_by(net, route.met, last);
+        return cores::best_key(net, store, route.exposure, off, want.key + 1) == want.key;
     }
-    keys::standby_key(exposure::sharing(want.main, route), want.metres) == want.key
+    if last == want.off.last {
+        return false;
+    }
+    keys::standby_key(exposure::sharing(want.main, route.exposure), want.metres) == want.key
 }
 
 // Whether what is exposed to this shares more with the main than the key of a wanted standby says: then nothing that goes on from there is wanted.
@@ -110,14 +120,18 @@ const LOW: usize = 3;
 
 const HIGH: usize = 4;
 
-const AS_MAIN: usize = 5;
+const NODES: usize = 5;
 
-const PASSED: usize = 6;
+const LAST: usize = 6;
+
+const AS_MAIN: usize = 7;
+
+const PASSED: usize = 8;
 
 // How many arcs are put down: 0 until the route is found.
-const COUNT: usize = 7;
+const COUNT: usize = 9;
 
-const ARCS: usize = 8;
+const ARCS: usize = 10;
 
 // The words that a search for this begins with.
 fn run_for(want: Want) -> [u64; RUN_WORDS]
@@ -129,6 +143,8 @@ fn run_for(want: Want) -> [u64; RUN_WORDS]
     run[RISKS] = want.main.risks;
     run[LOW] = want.main.low;
     run[HIGH] = want.main.high;
+    run[NODES] = want.off.nodes;
+    run[LAST] = want.off.last;
     run[AS_MAIN] = want.as_main as u64;
     run
 }
@@ -142,10 +158,15 @@ fn want_in(run: &[u64; RUN_WORDS]) -> Want
         low: run[LOW],
         high: run[HIGH],
     };
+    let off = Barred {
+        nodes: run[NODES],
+        last: run[LAST],
+    };
     Want {
         metres: run[METRES],
         key: run[KEY],
         main: main,
+        off: off,
         as_main: 0 < run[AS_MAIN],
     }
 }
@@ -177,7 +198,7 @@ fn meet(
         return;
     }
     let want = want_in(run);
-    if wanted(net, store, want, route.exposure) {
+    if wanted(net, store, want, route, k) {
         put_down(run, k);
         return;
     }
@@ -274,16 +295,19 @@ fn track_in(net: &[u64; net::SIZE], run: &[u64; RUN_WORDS]) -> Track
     t
 }
 
-// The first route, in depth-first order, that is wanted: as a main, or as a standby where its key is the least of all standbys of that main.
+// The first route, in depth-first order, that is wanted: as a main, or as a standby where its key is the least of all standbys of that main that keep off what
+// is barred. Its arcs are arcs of the mesh.
 pub fn first_route(net: &[u64; net::SIZE], store: &mut [u64; cores::OWN_WORDS], want: Want) -> Found
     requires { ⌜ Net (now net) × Stored (now net) (now store) × InRange want ⌝ }
     ensures fit { λ r. ⌜ Fit (r .track) ⌝ }
-    ensures first { λ r. ⌜ (Sure (meshIn (now (net .entry))) want → OutcomeOverAll (meshIn (now (net .entry))) want (soughtIn r)) ⌝ }
+    ensures first { λ r. ⌜ (Sure (meshIn (now (net .entry))) want
+        → OutcomeOverAll (apartOnly (now (net .entry))) (meshIn (now (net .entry))) want (soughtIn r)) ⌝ }
+    ensures known { λ r. ⌜ ((k : ℕ) → List·Memᴰ k (routeIn (r .track) .arcs) → k < length (arcsIn (now (net .entry)))) ⌝ }
     ensures stored { λ _. ⌜ Stored (now (net .entry)) (now (store .exit)) ⌝ }
 {
     labels::clear(store);
     let source = net::source(net);
-    let met = sets::with(0, source as u8);
+    let met = sets::with(want.off.nodes, source as u8);
     let mut run = run_for(want);
     seek(net, &mut run, store, source, met, 0, 0, 0, 0);
     let track = track_in(net, &run);
@@ -292,4 +316,21 @@ pub fn first_route(net: &[u64; net::SIZE], store: &mut [u64; cores::OWN_WORDS], 
         passed: run[PASSED],
         track: track,
     }
+}
+
+// What a main bars its standbys from.
+pub fn barred_by(net: &[u64; net::SIZE], main: Track) -> Barred
+    requires { ⌜ Net (now net) × Fit main × ((k : ℕ) → List·Memᴰ k (routeIn main .arcs) → k < length (arcsIn (now net))) ⌝ }
+    ensures { λ r. ⌜ r ≡ barredByList (apartOnly (now (net .entry))) (meshIn (now (net .entry))) (routeIn main .arcs) ⌝ }
+{
+    let source = net::source(net);
+    let mut met = sets::with(0, source as u8);
+    let mut last = bars::NO_ARC;
+    let mut i: usize = 0;
+    while i < main.count as usize {
+        last = main.arcs[i] as u64;
+        met = sets::with(met, net::head(net, last) as u8);
+        i += 1;
+    }
+    bars::barred_by(net, met, last)
 }

@@ -1,5 +1,5 @@
--- One test or the other, one test and the other, taken apart. Assumes nothing.
-use mathlib.Core.Path.{_≡_, refl}
+-- One test or the other, one test and the other, taken apart; two tests that hold together. Assumes nothing.
+use mathlib.Core.Path.{_≡_, refl, sym}
 use mathlib.Core.Logic.{_⊎_, inl, inr}
 use mathlib.Core.Bool.{Bool, true, false, _&&_, _||_, true≢false, false≢true}
 
@@ -14,3 +14,9 @@ neither false b e = (refl, e)
 pub both : (a b : Bool) → (a && b) ≡ true → (a ≡ true) × (b ≡ true)
 both true b e = (refl, e)
 both false b e = absurd (false≢true e)
+
+-- tests of which each holds where the other does say the same
+pub hold-together : (a b : Bool) → (a ≡ true → b ≡ true) → (b ≡ true → a ≡ true) → a ≡ b
+hold-together true b f g = sym (f refl)
+hold-together false true f g = g refl
+hold-together false false f g = refl

@@ -1,5 +1,5 @@
 -- The first of a list by an order is one of the list, and none of the list stands before it; the least number that passes a test. Assumes nothing.
-use mathlib.Core.Path.{_≡_, refl, sym, ap, _∙_}
+use mathlib.Core.Path.{_≡_, refl, sym, ap, ap₂, _∙_}
 use mathlib.Core.Logic.{_⊎_, inl, inr}
 use mathlib.Core.Bool.{Bool, true, false, false≢true}
 use mathlib.Core.List.{List, [], _∷_, List·Memᴰ, List·Memᴰ·head, List·Memᴰ·tail, List·Memᴰ·not-nil, List·Memᴰ·cases-cons, List·Memᴰ·eq-of-singleton}
@@ -89,3 +89,9 @@ least-from test (suc n) j top h b e = go (test j) refl (least-from test n (suc j
     go false f ih =
         let off : j ≡ top → ⊥ = λ q. false≢true (sym f ∙ ap test q ∙ e) in
         rw (f, leastFrom) (later f (ih (omega (arith, off)) (omega arith) e))
+
+-- tests that say the same have the same least number
+pub least-same : (f g : ℕ → Bool) → ((j : ℕ) → f j ≡ g j) → (n j : ℕ) → leastFrom f n j ≡ leastFrom g n j
+unfolding leastFrom
+least-same f g same zero j = refl
+least-same f g same (suc n) j = ap₂ (λ (b : Bool) (k : ℕ). elim b [ true ↦ j | false ↦ k ]) (same j) (least-same f g same n (suc j))

@@ -372,6 +372,16 @@ unmet-with (suc n) h s l e = go (eqb n h) refl (unmet-with n h s)
         rw (bit-with, q, out, unmet-above n h s (omega arith)) (omega arith)
     go false q ih = rw (bit-with, q, ih (omega (arith, eqb-false n h q)) e) (omega arith)
 
+-- where one is in, not all are left out
+pub unmet-some : (n h s : ℕ) → h < n → bit s h ≡ 1 → unmet n s < n
+unfolding unmet
+unmet-some zero h s l e = absurd (not-suc-le-zero l)
+unmet-some (suc n) h s l e = go (eqb h n) refl (unmet-some n h s)
+  where
+    go : (b : Bool) → eqb h n ≡ b → (h < n → bit s h ≡ 1 → unmet n s < n) → unmet (suc n) s < suc n
+    go true q ih = omega (arith, ap (bit s) (eqb-true h n q), unmet-le n s)
+    go false q ih = omega (arith, ih (omega (arith, eqb-false h n q)) e)
+
 -- where none is left out, each is in
 pub unmet-none : (n h s : ℕ) → unmet n s ≡ 0 → h < n → bit s h ≡ 1
 unfolding unmet

@@ -70,13 +70,13 @@ unspanned : (a : Arc) → a .span ≡ 0 → (ofArc a .low ≡ 0) × (ofArc a .hi
 unfolding ofArc spanField
 unspanned a e = (rw e, rw e)
 
-module _ {table : List ℕ} {q : Request} {side : List Distance} {spanned : ℕ} {chain into empty with-arcs with-nodes net : List ℕ}
+module _ {table : List ℕ} {q : Request} {side : List Distance} {spanned apart : ℕ} {chain into empty with-arcs with-nodes net : List ℕ}
     (checked : Checked table q) (sides : SideTable (arcsOf table) (q .terminal) toNothing side) (chained : Chain (endOf End.Tail) (arcsOf table) chain)
     (chained-in : Chain (endOf End.Head) (arcsOf table) into) (size : length empty ≡ netSize)
     (of-arcs : ArcsLaid (arcsOf table) chain into empty with-arcs)
     (of-nodes : NodesLaid chain side with-arcs with-nodes)
     (of-spans : spanned ≡ 0 → NoSpan (arcsOf table))
-    (of-request : Spread 6 (requestWords (meshOver (arcsOf table) q) (firstIn into (q .terminal)) spanned) arcCountAt 1 with-nodes net) where
+    (of-request : Spread 7 (requestWords (meshOver (arcsOf table) q) (firstIn into (q .terminal)) spanned apart) arcCountAt 1 with-nodes net) where
   abbrev arcs : List Arc
   arcs = arcsOf table
 
@@ -157,9 +157,10 @@ module _ {table : List ℕ} {q : Request} {side : List Distance} {spanned : ℕ}
     first-door = rw (of-request .here 4 (omega arith)) (chained-in .first terminal (checked .terminal-node));
   }
 
-  pub laid-out : LaidOut (meshOver (arcsOf table) q) side net
+  pub laid-out : LaidOut (meshOver (arcsOf table) q) side apart net
   laid-out = record {
     words = subst (λ (m : Mesh). Chained m net) (sym says-mesh) hang-together;
     mesh-is = says-mesh;
+    apart-is = of-request .here 6 (omega arith);
     source-lower = λ e. lower-word (q .source) (checked .source-node) ∙ lower-reached sides (q .source) e;
   }

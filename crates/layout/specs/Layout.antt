@@ -12,7 +12,7 @@ use Rattle.problem.specs.Routes.{Mesh, arcAt}
 use Rattle.side.specs.declared.Distance.{Distance}
 use Rattle.side.specs.Side.{reachedAt, metresAt}
 use Rattle.chain.specs.Chain.{firstIn, nextIn}
-use Rattle.net.specs.Net.{firstFrom, lowerFrom, wordAt, meshIn, Net}
+use Rattle.net.specs.Net.{firstFrom, lowerFrom, apartAt, wordAt, meshIn, Net}
 use Rattle.layout.specs.Spread.{Columns}
 
 -- an arc's links in one word: its head, the next arc of its tail, its tail, the next arc of its head, and above these its span
@@ -46,12 +46,13 @@ nodeColumn chain side v = nodeWords (firstIn chain v) (lowerOf (reachedAt side v
 abbrev pub NodesLaid : (chain : List ℕ) → List Distance → (before after : List ℕ) → Type 0
 NodesLaid chain side before after = Columns nodes (nodeColumn chain side) firstFrom nodes before after
 
--- the words behind those: the number of arcs, the request, the first door, and whether some arc has a span
-abbrev pub requestWords : Mesh → (door spanned : ℕ) → List ℕ
-requestWords m door spanned = length (m .arcs) ∷ m .terminal ∷ m .reach ∷ m .source ∷ door ∷ spanned ∷ []
+-- the words behind those: the number of arcs, the request, the first door, whether some arc has a span, and whether pairs must be apart
+abbrev pub requestWords : Mesh → (door spanned apart : ℕ) → List ℕ
+requestWords m door spanned apart = length (m .arcs) ∷ m .terminal ∷ m .reach ∷ m .source ∷ door ∷ spanned ∷ apart ∷ []
 
--- the words hang together, and say this mesh; the source's lower bound is its length in the side table
-pub record LaidOut (m : Mesh) (side : List Distance) (net : List ℕ) : Type 0 where
+-- the words hang together, and say this mesh and whether pairs must be apart; the source's lower bound is its length in the side table
+pub record LaidOut (m : Mesh) (side : List Distance) (apart : ℕ) (net : List ℕ) : Type 0 where
   pub words : Net net
   pub mesh-is : meshIn net ≡ m
+  pub apart-is : wordAt net apartAt ≡ apart
   pub source-lower : reachedAt side (m .source) ≡ true → wordAt net (lowerFrom + m .source) ≡ metresAt side (m .source)

@@ -103,7 +103,7 @@ fn lay_nodes(net: &mut [u64], chain: &[u8], side: [Distance; problem::NODES])
 }
 
 // Writes the table and the request as words, over whatever stands there. `into` is the arcs chained by their heads, `side` the side table with nothing banned;
-// `spanned` is 0 only where no arc has a span.
+// `spanned` is 0 only where no arc has a span, `apart` where every pair is judged.
 pub fn lay_out(
     net: &mut [u64],
     table: &[u8],
@@ -111,10 +111,11 @@ pub fn lay_out(
     q: Request,
     side: [Distance; problem::NODES],
     spanned: u64,
+    apart: u64,
 )
     requires { ⌜ Checked (now table) q × (spanned ≡ 0 → NoSpan (arcsOf (now table))) × (length (now net) ≡ netSize) ⌝ }
     requires { ⌜ Chain (endOf End.Head) (arcsOf (now table)) (now into) × SideTable (arcsOf (now table)) (q .terminal) toNothing side ⌝ }
-    ensures { λ _. ⌜ LaidOut (meshOver (arcsOf (now (table .entry))) q) side (now (net .exit)) ⌝ }
+    ensures { λ _. ⌜ LaidOut (meshOver (arcsOf (now (table .entry))) q) side apart (now (net .exit)) ⌝ }
 {
     let chain = chain::chained(table, chain::End::Tail);
     let count = table.len() / ARC_BYTES;
@@ -128,6 +129,7 @@ pub fn lay_out(
         q.source as u64,
         door as u64,
         spanned,
+        apart,
     ];
     spread(net, REQUEST_FROM, 1, &request);
 }

@@ -5,18 +5,21 @@ use mathlib.Core.Bool.{Bool, true, false}
 use mathlib.Core.List.{List, [], _∷_, foldl}
 use Prim.Native.Nat.{ℕ, _+_, _≤_, _<_, min}
 use native.Mathlib.Omega.{arith}
-use lib.Dec.{leb, ltb}
+use lib.Dec.{eqb, leb, ltb}
 use borrow.Author.Tests.{leb-true, ltb-true, ltb-false}
 use Rattle.laws.specs.Choosing.{if_then_else_}
 use Rattle.problem.specs.Table.{hazards, mostReach}
 use Rattle.problem.specs.Exposures.{sharing}
-use Rattle.problem.specs.Routes.{Mesh, paths}
+use Rattle.problem.specs.Routes.{Mesh}
 use Rattle.problem.proofs.ExposureLaws.{sharing-le}
 use Rattle.keys.specs.Keys.{standbyKey, OfStandby, pairKey, boundFor, pairOf}
 use Rattle.keys.proofs.BoundLaws.{pairOf-key, bound-better, pairs-better}
 use Rattle.net.specs.declared.Behind.{Behind}
-use Rattle.net.specs.Search.{start, along, visit, searchedAll}
-use Rattle.standby.specs.Standby.{offered, leastKey}
+use Rattle.net.specs.Search.{along, lastOf, noArc, visit}
+use Rattle.bars.specs.declared.Barred.{Barred}
+use Rattle.bars.specs.Bars.{startBarred, unbarred}
+use Rattle.standby.specs.Standby.{offered}
+use Rattle.standby.specs.Ahead.{quest, leastOf}
 use Rattle.mains.specs.Mains.{paired, bestWith}
 
 module _ (m : Mesh) (main : Behind) (best : ℕ) (near : m .reach ≤ mostReach) (xs : main .metres ≤ mostReach) where
@@ -54,10 +57,10 @@ module _ (m : Mesh) (main : Behind) (best : ℕ) (near : m .reach ≤ mostReach)
           let k : min key (standbyKey n y) ≡ key = omega arith in
           better n′ y′ ns′ ys′ (k ∙ e) (omega (arith, no)) (omega arith)
 
-  -- a standby at whose end this lies behind
-  offered-beside : (key pair : ℕ) (s : Behind) → Beside key pair → Beside (offered m (main .exposure) key s) (paired m main pair s)
+  -- a standby at whose end this lies behind, and which ends with arc k
+  offered-beside : (last key pair : ℕ) (s : Behind) (k : ℕ) → Beside key pair → Beside (offered m (main .exposure) last key s k) (paired m main last pair s k)
   unfolding offered paired
-  offered-beside key pair s b = go (leb (s .metres) (m .reach)) refl
+  offered-beside last key pair s k b = own (eqb k last) (go (leb (s .metres) (m .reach)) refl)
     where
       shared : ℕ
       shared = sharing (main .exposure) (s .exposure)
@@ -67,16 +70,21 @@ module _ (m : Mesh) (main : Behind) (best : ℕ) (near : m .reach ≤ mostReach)
       go true e = step (sharing (main .exposure) (s .exposure)) (s .metres) key pair (sharing-le (main .exposure) (s .exposure)) (leb-true _ _ e) b
       go false e = b
 
-  beside-fold : (key pair : ℕ) (l : List (List ℕ)) → Beside key pair
-      → Beside (foldl (visit (m .arcs) (offered m (main .exposure)) (start m)) key l) (foldl (visit (m .arcs) (paired m main) (start m)) pair l)
-  beside-fold key pair [] b = b
-  beside-fold key pair (ks ∷ l) b = beside-fold _ _ l (offered-beside key pair (along (m .arcs) (start m) ks) b)
+      own : (c : Bool) {u v : ℕ} → Beside u v → Beside (if c then key else u) (if c then pair else v)
+      own true o = b
+      own false o = o
+
+  beside-fold : (off : Barred) (key pair : ℕ) (l : List (List ℕ)) → Beside key pair
+      → Beside (foldl (visit (m .arcs) (offered m (main .exposure) (off .last)) (startBarred m off)) key l) (foldl (visit (m .arcs) (paired m main (off .last)) (startBarred m off)) pair l)
+  beside-fold off key pair [] b = b
+  beside-fold off key pair (ks ∷ l) b = beside-fold off _ _ l (offered-beside (off .last) key pair (along (m .arcs) (startBarred m off) ks) (lastOf noArc ks) b)
 
   -- all of them
-  pub beside-all : {bound key : ℕ} → bound ≡ boundFor best x → key ≡ leastKey m (main .exposure) bound → Beside key (bestWith m main best)
-  unfolding bestWith
-  beside-all {bound} {key} e h =
-      subst (λ (k : ℕ). Beside k (searchedAll m (paired m main) best)) (sym (h ∙ ap (leastKey m (main .exposure)) e)) (beside-fold (boundFor best x) best (paths m) (kept refl refl))
+  pub beside-all : (off : Barred) {bound key : ℕ} → bound ≡ boundFor best x → key ≡ leastOf (quest m (main .exposure) off) bound → Beside key (bestWith m main off best)
+  unfolding bestWith leastOf
+  beside-all off {bound} {key} e h =
+      subst (λ (k : ℕ). Beside k (foldl (visit (m .arcs) (paired m main (off .last)) (startBarred m off)) best (unbarred m off))) (sym (h ∙ ap (leastOf (quest m (main .exposure) off)) e))
+      (beside-fold off (boundFor best x) best (unbarred m off) (kept refl refl))
 
   -- a key below the bound can be made a pair's, and is the best's
   pub record Made (key pair : ℕ) : Type 0 where

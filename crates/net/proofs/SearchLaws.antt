@@ -22,13 +22,13 @@ use Rattle.problem.specs.Routes.{arcAt, metresOf, exposureOf, Way, opens, sprou
 use Rattle.problem.proofs.TableLaws.{sound-at}
 use Rattle.problem.proofs.ExposureLaws.{joined-assoc, joined-nothing}
 use Rattle.problem.proofs.RouteLaws.{opens-by, opens-new}
-use Rattle.problem.proofs.GrowthLaws.{fold-idle, fold-there, grow-way, grow-source, leftFrom, left-start, left-end, left-open, left-shut}
+use Rattle.problem.proofs.GrowthLaws.{fold-idle, fold-same, fold-there, grow-way, grow-source, leftFrom, left-start, left-end, left-open, left-shut}
 use Rattle.problem.proofs.PathLaws.{sound-heads}
 use Rattle.chain.specs.Chain.{Next}
 use Rattle.chain.proofs.ChainLaws.{sprout-next}
 use Rattle.net.specs.declared.Behind.{Behind}
 use Rattle.net.specs.Net.{firstFrom, lowerFrom, wordAt, nextOf, arcsIn, meshIn, Net}
-use Rattle.net.specs.Search.{behind, start, onto, along, visit, onward, searched, searchedAll}
+use Rattle.net.specs.Search.{behind, start, onto, along, lastOf, noArc, visit, onward, searched, searchedAll}
 use Rattle.net.proofs.NetLaws.{left-next}
 
 -- what a test of membership said, at the arc's own head
@@ -56,9 +56,21 @@ module _ (arcs : List Arc) where
   along-exposure b [] = sym (joined-nothing (b .exposure))
   along-exposure b (k ∷ ks) = along-exposure (onto b (arcAt arcs k)) ks ∙ joined-assoc (b .exposure) _ (exposureOf arcs ks)
 
+  -- which nodes are met there only the nodes met before decide
+  pub along-met : (b c : Behind) → b .met ≡ c .met → (ks : List ℕ) → along arcs b ks .met ≡ along arcs c ks .met
+  unfolding along
+  along-met b c e [] = e
+  along-met b c e (k ∷ ks) = along-met (onto b (arcAt arcs k)) (onto c (arcAt arcs k)) (ap (λ (s : ℕ). with s (arcAt arcs k .head)) e) ks
+
+  -- what goes on from another node than the end has an arc, so that it ends with one of its own, whichever came before it
+  pub last-own : (before : ℕ) (ks : List ℕ) {v to : ℕ} → (v ≡ to → ⊥) → Way arcs v to ks → lastOf before ks ≡ lastOf noArc ks
+  unfolding lastOf
+  last-own before [] on (Way.there t) = absurd (on t)
+  last-own before (k ∷ ks) on w = refl
+
 -- ---- a search from a node
 
-module _ {S : Type 0} (net : List ℕ) (end : S → Behind → S) (b : Behind) (at : ℕ) where
+module _ {S : Type 0} (net : List ℕ) (end : S → Behind → ℕ → S) (b : Behind) (at : ℕ) where
   abbrev arcs : List Arc
   arcs = arcsIn net
 
@@ -80,7 +92,7 @@ module _ {S : Type 0} (net : List ℕ) (end : S → Behind → S) (b : Behind) (
   over i = onto b (arcAt arcs i)
 
   abbrev through : ℕ → S → S
-  through i s = foldl (visit arcs end (over i)) s (grow arcs terminal (unmet 32 met) (with met (head i)) (head i))
+  through i s = foldl (λ (t : S) (ks : List ℕ). end t (along arcs (over i) ks) (lastOf i ks)) s (grow arcs terminal (unmet 32 met) (with met (head i)) (head i))
 
   -- the same as a list
   abbrev pub listFrom : ℕ → List (List ℕ)
@@ -131,32 +143,34 @@ module _ {S : Type 0} (net : List ℕ) (end : S → Behind → S) (b : Behind) (
 
       -- what all that goes over the arc makes of the state
       left-through : (s r : S) → bit met (head i) ≡ 0 → through i s ≡ r → Left i s ≡ Left (nextOf net i) r
-      unfolding along
+      unfolding along lastOf
       left-through s r e f =
           left-open arcs terminal (visit arcs end b) (unmet 32 met) met at i s l (opens-by met at (arcAt arcs i) (place .here l) e)
           ∙ ap (Left (i + 1)) f ∙ further r
 
       -- nothing that goes over the arc changes the state
-      pub left-idle : (s : S) → ((ks : List ℕ) → Way arcs (head i) terminal ks → wordAt net (lowerFrom + head i) ≤ metresOf arcs ks → visit arcs end (over i) s ks ≡ s)
+      pub left-idle : (s : S) → ((ks : List ℕ) → Way arcs (head i) terminal ks → wordAt net (lowerFrom + head i) ≤ metresOf arcs ks → (k : ℕ) → end s (along arcs (over i) ks) k ≡ s)
           → Left i s ≡ Left (nextOf net i) s
       left-idle s f = go (opens met at (arcAt arcs i)) refl
         where
-          idle : (ks : List ℕ) → Way arcs (head i) terminal ks → visit arcs end (over i) s ks ≡ s
-          idle ks w = f ks w (words .lower (head i) head-node w)
+          idle : (ks : List ℕ) → Way arcs (head i) terminal ks → end s (along arcs (over i) ks) (lastOf i ks) ≡ s
+          idle ks w = f ks w (words .lower (head i) head-node w) (lastOf i ks)
 
           go : (o : Bool) → opens met at (arcAt arcs i) ≡ o → Left i s ≡ Left (nextOf net i) s
           go true e = left-through s s (opens-new met at (arcAt arcs i) e) (fold-idle _ s _ (λ ks m. idle ks (grow-way arcs terminal (unmet 32 met) (with met (head i)) (head i) m)))
           go false e = left-shut arcs terminal (visit arcs end b) (unmet 32 met) met at i s l e ∙ further s
 
       -- the arc ends at the terminal
-      pub left-there : (s : S) → bit met (head i) ≡ 0 → head i ≡ terminal → Left i s ≡ Left (nextOf net i) (end s (over i))
-      unfolding along
+      pub left-there : (s : S) → bit met (head i) ≡ 0 → head i ≡ terminal → Left i s ≡ Left (nextOf net i) (end s (over i) i)
+      unfolding along lastOf
       left-there s e t = left-through s _ e (fold-there arcs terminal _ (unmet 32 met) _ _ s t)
 
       -- the search goes on from the head: the fuel is one more than the nodes not met then
-      pub left-onward : (s : S) → bit met (head i) ≡ 0 → Left i s ≡ Left (nextOf net i) (searched (meshIn net) end (over i) (head i) s)
-      left-onward s e =
-          left-through s _ e (ap (λ (n : ℕ). foldl (visit arcs end (over i)) s (grow arcs terminal n (with met (head i)) (head i))) (fewer e))
+      pub left-onward : (s : S) → bit met (head i) ≡ 0 → (head i ≡ terminal → ⊥) → Left i s ≡ Left (nextOf net i) (searched (meshIn net) end (over i) (head i) s)
+      left-onward s e on =
+          left-through s _ e
+          (fold-same _ (visit arcs end (over i)) s _ (λ t ks m. ap (end t (along arcs (over i) ks)) (last-own arcs i ks on (grow-way arcs terminal (unmet 32 met) (with met (head i)) (head i) m)))
+          ∙ ap (λ (n : ℕ). foldl (visit arcs end (over i)) s (grow arcs terminal n (with met (head i)) (head i))) (fewer e))
 
     -- ---- members
 
@@ -200,7 +214,7 @@ source-paths net words {at} {seen} metres e a s =
     same p q = rw (p, q)
 
 -- and what was found is found over all of them
-pub from-source : {S : Type 0} (net : List ℕ) → Net net → (end : S → Behind → S) (s : S) {at seen : ℕ} {e : Exposure} {x : S} → at ≡ meshIn net .source → seen ≡ with 0 at → e ≡ toNothing
+pub from-source : {S : Type 0} (net : List ℕ) → Net net → (end : S → Behind → ℕ → S) (s : S) {at seen : ℕ} {e : Exposure} {x : S} → at ≡ meshIn net .source → seen ≡ with 0 at → e ≡ toNothing
     → x ≡ searched (meshIn net) end (behind seen 0 e) at s → x ≡ searchedAll (meshIn net) end s
 from-source {S} net words end s {at} {seen} {e} a m n h =
     h ∙ ap (foldl (visit (arcsIn net) end (behind seen 0 e)) s) (source-paths net words 0 e a m) ∙ same (m ∙ ap (with 0) a) n

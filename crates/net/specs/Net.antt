@@ -1,14 +1,17 @@
 -- What a search walks over, laid out in words: the arcs' fields by number, the chain of each node, lower bounds, the request. Assumes nothing.
 use Prim.Native.Nat.{ℕ, zero, suc, _+_, _/_, _%_, _≤_, _<_, _^_}
-use mathlib.Core.Bool.{true}
+use mathlib.Core.Bool.{Bool, true, not}
 use mathlib.Core.List.{List, [], _∷_}
 use mathlib.Core.Path.{_≡_}
+use lib.Dec.{eqb}
 use lib.ListN.{length, getD}
 use Rattle.problem.specs.declared.Arc.{Arc}
 use Rattle.problem.specs.declared.Exposure.{Exposure}
 use Rattle.problem.specs.Table.{lastNode, nodes, mostReach, mostInTable, allSound}
 use Rattle.problem.specs.Exposures.{ofArc}
 use Rattle.problem.specs.Routes.{Mesh, mesh, arcAt, Way, metresOf, Route, ranking}
+use Rattle.problem.specs.Pairs.{Pair}
+use Rattle.problem.specs.Apart.{judges}
 use Rattle.chain.specs.Chain.{NextBy, Next}
 
 -- where the words of each kind begin: as many words as a table can have arcs for the arcs' risks, metres and links, and for the two fields of their spans; as many as
@@ -50,8 +53,12 @@ firstDoorAt = suc sourceAt
 abbrev pub spannedAt : ℕ
 spannedAt = suc firstDoorAt
 
+-- 0 where every pair is judged; else those that are apart (T-05)
+abbrev pub apartAt : ℕ
+apartAt = suc spannedAt
+
 abbrev pub netSize : ℕ
-netSize = suc spannedAt
+netSize = suc apartAt
 
 abbrev pub wordAt : List ℕ → ℕ → ℕ
 wordAt net i = getD net i 0
@@ -90,6 +97,16 @@ meshIn net = mesh (arcsIn net) (wordAt net sourceAt) (wordAt net terminalAt) (wo
 -- and its routes, in their ranking
 abbrev pub routesIn : List ℕ → List Route
 routesIn net = ranking (meshIn net)
+
+-- whether only pairs that are apart are judged, by the word for it; and the pairs that are
+abbrev pub toBe : ℕ → Bool
+toBe apart = not (eqb apart 0)
+
+abbrev pub apartOnly : List ℕ → Bool
+apartOnly net = toBe (wordAt net apartAt)
+
+abbrev pub judgedIn : List ℕ → Pair → Bool
+judgedIn net = judges (meshIn net) (apartOnly net)
 
 -- what the words say that arc k is exposed to
 abbrev pub exposureIn : List ℕ → ℕ → Exposure

@@ -6,10 +6,11 @@ ghost use lib.ListN.{length};
 ghost use Rattle.problem.specs.Table.{lastNode, mostArcMetres, mostReach};
 ghost use Rattle.problem.specs.Exposures.{ofArc};
 ghost use Rattle.problem.specs.Routes.{arcAt};
-ghost use Rattle.net.specs.Net.{firstFrom, lowerFrom, firstDoorAt, spannedAt, wordAt, nextOf, nextInOf, arcsIn, meshIn, Net};
+ghost use Rattle.net.specs.Net.{firstFrom, lowerFrom, firstDoorAt, spannedAt, apartAt, wordAt, nextOf, nextInOf, arcsIn, meshIn, Net};
 
 // Where the words of each kind begin: as many words as a table can have arcs for the risks, the metres, the links and the two fields of the span of an arc;
-// as many as there are nodes for each field of a node; then the number of arcs, the request, the first door, and whether there are spans.
+// as many as there are nodes for each field of a node; then the number of arcs, the request, the first door, whether there are spans,
+// and whether pairs must be apart.
 // An arc's links are in one word, from the lowest byte on: its head, the next arc of its tail, its tail, the next arc of its head, and above these its span.
 pub const METRES_FROM: u64 = problem::MOST_IN_TABLE as u64;
 
@@ -35,7 +36,9 @@ const FIRST_DOOR_AT: u64 = SOURCE_AT + 1;
 
 const SPANNED_AT: u64 = FIRST_DOOR_AT + 1;
 
-pub const SIZE: usize = SPANNED_AT as usize + 1;
+const APART_AT: u64 = SPANNED_AT + 1;
+
+pub const SIZE: usize = APART_AT as usize + 1;
 
 // More than any length, and than any number of routes that is counted.
 pub const NO_LENGTH: u64 = 1099511627776;
@@ -176,4 +179,12 @@ pub fn spanned(net: &[u64]) -> u64
     ensures { λ r. ⌜ r ≡ wordAt (now (net .entry)) spannedAt ⌝ }
 {
     word(net, SPANNED_AT)
+}
+
+// Whether only pairs that are apart are judged: 0 where every pair is.
+pub fn apart(net: &[u64]) -> u64
+    requires { ⌜ Net (now net) ⌝ }
+    ensures { λ r. ⌜ r ≡ wordAt (now (net .entry)) apartAt ⌝ }
+{
+    word(net, APART_AT)
 }

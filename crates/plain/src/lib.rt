@@ -1,10 +1,12 @@
 // The best standby of a main. Where no arc has a span, risks alone are counted and handed on, which is quicker; all else is as in `standby`, whose search is asked
 // where there are spans.
+use bars::Barred;
 use labels::STORE_WORDS;
 use net::Behind;
 use problem::Exposure;
 use standby::DOOR;
 use standby::Hop;
+use standby::LAST;
 use standby::MAIN_WORDS;
 use standby::RISKS;
 ghost use Prim.Native.Nat.{_≤_, _<_};
@@ -13,7 +15,7 @@ ghost use lib.ListN.{length};
 ghost use Rattle.problem.specs.Table.{mostReach, hazards};
 ghost use Rattle.net.specs.Net.{arcsIn, meshIn, Net};
 ghost use Rattle.net.specs.Search.{behind};
-ghost use Rattle.standby.specs.Standby.{EveryDoor, mainIn, doorOf, hopAt, Seeking};
+ghost use Rattle.standby.specs.Standby.{EveryDoor, mainIn, doorOf, lastBarred, hopAt, Seeking};
 ghost use Rattle.standby.specs.Ahead.{quest, NoneBelow, leastOf};
 ghost use Rattle.labels.specs.Labels.{labelWords, Frame};
 ghost use Rattle.standby.specs.Sought.{Sought};
@@ -41,7 +43,8 @@ fn look(
     least: u64,
 ) -> Hop
     requires { ⌜ Net (now net) × Plain (now net) × (i < length (arcsIn (now net))) × (metres ≤ mostReach) × (doorOf (now main) ≤ hazards) ⌝ }
-    ensures { λ r. ⌜ r ≡ hopAt (now (net .entry)) (mainIn (now (main .entry))) (doorOf (now (main .entry))) least (behind met metres (byRisks risks)) i ⌝ }
+    ensures { λ r. ⌜ r ≡ hopAt (now (net .entry)) (mainIn (now (main .entry))) (doorOf (now (main .entry))) (lastBarred (now (main .entry))) least
+        (behind met metres (byRisks risks)) i ⌝ }
 {
     let head = net::head(net, i);
     if sets::has(met, head as u8) {
@@ -59,6 +62,9 @@ fn look(
         return Hop::Passed;
     }
     if head == net::terminal(net) {
+        if i == main[LAST] {
+            return Hop::Passed;
+        }
         return Hop::Ends(key);
     }
     let behind = Behind {
@@ -81,7 +87,8 @@ fn seek(
     bound: u64,
 ) -> u64
     requires { ⌜ Plain (now net) × Seeking (now net) (mainIn (now main)) (doorOf (now main)) at metres × (labelWords ≤ length (now store)) ⌝ }
-    ensures { λ r. ⌜ Sought (now (net .entry)) (mainIn (now (main .entry))) at (behind met metres (byRisks risks)) bound (now (store .entry)) (now (store .exit)) r ⌝ }
+    ensures { λ r. ⌜ Sought (now (net .entry)) (mainIn (now (main .entry))) (lastBarred (now (main .entry))) at
+        (behind met metres (byRisks risks)) bound (now (store .entry)) (now (store .exit)) r ⌝ }
 {
     let mut least = bound;
     let mut i = net::first(net, at);
@@ -118,26 +125,26 @@ fn seek(
     least
 }
 
-// The least of `bound` and the keys of all standbys of a main that is exposed to this, that meet none of these nodes. What the store held does not matter.
+// The least of `bound` and the keys of all standbys of a main that is exposed to this, that keep off what is barred. What the store held does not matter.
 pub fn search(
     net: &[u64; net::SIZE],
     store: &mut [u64; STORE_WORDS],
     main: Exposure,
     door: u64,
-    nodes: u64,
+    off: Barred,
     bound: u64,
 ) -> u64
     requires { ⌜ Net (now net) × (labelWords ≤ length (now store)) × EveryDoor (meshIn (now net)) main door ⌝ }
-    ensures least { λ r. ⌜ r ≡ leastOf (quest (meshIn (now (net .entry))) main nodes) bound ⌝ }
-    ensures below { λ r. ⌜ NoneBelow (quest (meshIn (now (net .entry))) main nodes) r ⌝ }
+    ensures least { λ r. ⌜ r ≡ leastOf (quest (meshIn (now (net .entry))) main off) bound ⌝ }
+    ensures below { λ r. ⌜ NoneBelow (quest (meshIn (now (net .entry))) main off) r ⌝ }
     ensures frame { λ _. ⌜ Frame (now (store .entry)) (now (store .exit)) ⌝ }
 {
     if 0 < net::spanned(net) {
-        return standby::search(net, store, main, door, nodes, bound);
+        return standby::search(net, store, main, door, off, bound);
     }
     labels::clear(store);
     let source = net::source(net);
-    let met = sets::with(nodes, source as u8);
-    let words = [main.risks, main.low, main.high, door];
+    let met = sets::with(off.nodes, source as u8);
+    let words = [main.risks, main.low, main.high, door, off.last];
     seek(net, store, &words, source, met, 0, 0, bound)
 }

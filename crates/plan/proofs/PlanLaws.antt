@@ -1,11 +1,11 @@
 -- The loop over windows: the length test on a tally is that of its step; what one turn does; how the turns end. Assumes nothing.
 use mathlib.Core.Path.{_≡_, refl, sym, ap, _∙_, subst}
 use mathlib.Core.Logic.{_⊎_, inl, inr}
-use mathlib.Core.Bool.{Bool, true, false, false≢true}
+use mathlib.Core.Bool.{Bool, true, false, _&&_, false≢true}
 use mathlib.Core.List.{List}
-use Prim.Native.Nat.{ℕ, zero, suc, _+_, _-_, _≤_, _<_, min}
+use Prim.Native.Nat.{ℕ, zero, suc, _+_, _*_, _-_, _≤_, _<_, min}
 use native.Mathlib.Omega.{arith}
-use lib.Dec.{eqb}
+use lib.Dec.{eqb, leb}
 use borrow.Author.Tests.{lt-ltb, ne-eqb}
 use lib.ListN.{length, getD}
 use Rattle.laws.specs.Choosing.{if_then_else_}
@@ -14,17 +14,18 @@ use Rattle.laws.proofs.FoldLaws.{keep-all}
 use Rattle.laws.proofs.ListLaws.{getD-mem, length-keep}
 use Rattle.problem.specs.Table.{hazards, mostArcs, mostReach}
 use Rattle.problem.specs.Routes.{Route, routeOf, within, count, shorter}
-use Rattle.problem.specs.Pairs.{noRoute, every, best, onEvery, floor, settledByLength}
+use Rattle.problem.specs.Pairs.{Pair, sharedCount, total, noRoute, someAt, best, onEvery, floor, settledByLength}
 use Rattle.problem.proofs.ExposureLaws.{size-le}
 use Rattle.problem.proofs.GrowthLaws.{grow-way}
 use Rattle.problem.proofs.RankingLaws.{Listed, ranking-out}
-use Rattle.problem.proofs.CandidateLaws.{best-in, best-main, every-some}
-use Rattle.keys.specs.Keys.{sharedOf, totalOf, noKey}
+use Rattle.problem.proofs.CandidateLaws.{best-in, best-main}
+use Rattle.keys.specs.Keys.{keyOf, sharedOf, totalOf, noKey}
 use Rattle.keys.proofs.ChoiceLaws.{InReach, ranking-in-reach, pair-fits, keyOf-shared, keyOf-total, noKey-shared}
-use Rattle.net.specs.Net.{lowerFrom, wordAt, arcsIn, meshIn, routesIn, Net}
+use Rattle.net.specs.Net.{lowerFrom, wordAt, arcsIn, meshIn, routesIn, apartOnly, judgedIn, Net}
+use Rattle.bars.proofs.BarsLaws.{net-regular}
 use Rattle.tally.specs.declared.Tally.{Tally}
-use Rattle.mains.specs.Mains.{noTally, Stepped}
-use Rattle.mains.proofs.TallyLaws.{stepped-start}
+use Rattle.mains.specs.Mains.{noTally, bestKey, Stepped}
+use Rattle.mains.proofs.TallyLaws.{none-first, stepped-start}
 use Rattle.sweep.specs.declared.Swept.{Swept}
 use Rattle.sweep.specs.declared.Window.{Window}
 use Rattle.sweep.specs.Sweep.{SweptAll}
@@ -38,40 +39,59 @@ use Rattle.plan.specs.Plan.{metBy, notOver, endedAt, Planning, Ended, Tu
 
 -- between turns: the tally is that of all routes shorter than `cur`, and it is not met
 pub record Going (net : List ℕ) (allowance low : ℕ) (t : Tally) (cur width : ℕ) : Type 0 where
-  pub tally-is : Stepped (routesIn net) (count (shorter cur) (routesIn net)) t
+  pub tally-is : Stepped (judgedIn net) (routesIn net) (count (shorter cur) (routesIn net)) t
   pub allowed : t .ranked ≤ allowance
   pub not-met : metBy t low ≡ false
   pub width-range : width ≤ mostReach
 
 -- ---- the length test
 
+-- from what the tally says
+met-is : (t : Tally) {f shared total low metres : ℕ} → sharedOf (t .best) ≡ shared → totalOf (t .best) ≡ total → f ≡ low → t .last ≡ metres → metBy t f ≡ (eqb shared low && leb total (2 * metres))
+unfolding metBy
+met-is t n m e l = rw (n, m, e, l)
+
 module _ (net : List ℕ) (words : Net net) where
   pub in-reach : InReach (routesIn net)
   in-reach = ranking-in-reach (meshIn net) (words .reach-range)
 
+  -- where no pair is judged yet it does not hold
+  unmet-none : (t : Tally) → t .best ≡ noKey → (f : ℕ) → f ≤ hazards → metBy t f ≡ false
+  unfolding metBy
+  unmet-none t e f small =
+      let n : eqb (sharedOf noKey) f ≡ false = ne-eqb _ f (λ q. omega (arith, noKey-shared)) in
+      rw (e, n)
+
+  floor-low : floor (routesIn net) ≤ hazards
+  unfolding floor
+  floor-low = size-le (onEvery (routesIn net))
+
   -- on the tally of a step it is the rule's own test
-  pub met-by-length : {j : ℕ} {t : Tally} → Stepped (routesIn net) j t → 0 < j → (f : ℕ) → f ≡ floor (routesIn net) → metBy t f ≡ settledByLength every (routesIn net) j
-  unfolding metBy settledByLength
-  met-by-length {j} {t} s pos f e =
-      let some = every-some (routesIn net) (record { from-one = pos; to-N = s .to-N }) in
-      let fits = pair-fits (routesIn net) in-reach (best-main every (routesIn net) j some) (best-in every (routesIn net) j some .standby-in) in
-      let b = best every (routesIn net) j in
-      let n = ap sharedOf (s .best-is pos) ∙ keyOf-shared b fits in
-      let m = ap totalOf (s .best-is pos) ∙ keyOf-total b fits in
-      rw (some, n, m, e, s .last-is pos)
+  pub met-by-length : {j : ℕ} {t : Tally} → Stepped (judgedIn net) (routesIn net) j t → 0 < j → (f : ℕ) → f ≡ floor (routesIn net) → metBy t f ≡ settledByLength (judgedIn net) (routesIn net) j
+  unfolding settledByLength bestKey
+  met-by-length {j} {t} s pos f e = go (someAt (judgedIn net) (routesIn net) j) refl
+    where
+      b : Pair
+      b = best (judgedIn net) (routesIn net) j
+
+      by-key : someAt (judgedIn net) (routesIn net) j ≡ true → t .best ≡ keyOf b → metBy t f ≡ (eqb (sharedCount b) (floor (routesIn net)) && leb (total b) (2 * getD (routesIn net) (j - 1) noRoute .metres))
+      by-key some is =
+          let fits = pair-fits (routesIn net) in-reach (best-main (judgedIn net) (routesIn net) j some) (best-in (judgedIn net) (routesIn net) j some .standby-in) in
+          met-is t (ap sharedOf is ∙ keyOf-shared b fits) (ap totalOf is ∙ keyOf-total b fits) e (s .last-is pos)
+
+      go : (x : Bool) → someAt (judgedIn net) (routesIn net) j ≡ x → metBy t f ≡ settledByLength (judgedIn net) (routesIn net) j
+      go true some = rw some (by-key some (rw some at (s .best-is)))
+      go false none = rw none (unmet-none t (rw none at (s .best-is)) f (omega (arith, e, floor-low)))
 
   -- before the first main nothing is met
-  pub met-none : {t : Tally} → Stepped (routesIn net) 0 t → (f : ℕ) → f ≤ hazards → metBy t f ≡ false
-  unfolding metBy
-  met-none s f small =
-      let n : eqb (sharedOf noKey) f ≡ false = ne-eqb _ f (λ e. omega (arith, noKey-shared)) in
-      rw (s .best-none refl, n)
+  pub met-none : {t : Tally} → Stepped (judgedIn net) (routesIn net) 0 t → (f : ℕ) → f ≤ hazards → metBy t f ≡ false
+  met-none {t} s f small = unmet-none t (s .best-is ∙ none-first (judgedIn net) (routesIn net)) f small
 
   -- the last main of a step is a route
-  pub last-range : {j : ℕ} {t : Tally} → Stepped (routesIn net) j t → t .last ≤ mostReach
+  pub last-range : {j : ℕ} {t : Tally} → Stepped (judgedIn net) (routesIn net) j t → t .last ≤ mostReach
   last-range {j} {t} s = go j s
     where
-      go : (i : ℕ) → Stepped (routesIn net) i t → t .last ≤ mostReach
+      go : (i : ℕ) → Stepped (judgedIn net) (routesIn net) i t → t .last ≤ mostReach
       go zero p = omega (arith, p .last-none refl)
       go (suc i) p = omega (arith, p .last-is (omega arith), in-reach (getD (routesIn net) (suc i - 1) noRoute) (getD-mem noRoute (routesIn net) (suc i - 1) (omega (arith, p .to-N))))
 
@@ -79,21 +99,20 @@ module _ (net : List ℕ) (words : Net net) where
 
   module _ (allowance low : ℕ) (planning : Planning net allowance low) where
     floor-range : low ≤ hazards
-    unfolding floor
-    floor-range = omega (arith, planning .floor-is, size-le (onEvery (routesIn net)))
+    floor-range = omega (arith, planning .floor-is, floor-low)
 
     -- the test holds of no tally before the first main
-    met-some : (j : ℕ) {t : Tally} → Stepped (routesIn net) j t → metBy t low ≡ true → 0 < j
+    met-some : (j : ℕ) {t : Tally} → Stepped (judgedIn net) (routesIn net) j t → metBy t low ≡ true → 0 < j
     met-some zero s e = absurd (false≢true (sym (met-none s low floor-range) ∙ e))
     met-some (suc j) s e = omega arith
 
-    pub ended-met : (j : ℕ) {t : Tally} → Stepped (routesIn net) j t → j ≤ allowance → metBy t low ≡ true → Ended net allowance (ByLength t)
+    pub ended-met : (j : ℕ) {t : Tally} → Stepped (judgedIn net) (routesIn net) j t → j ≤ allowance → metBy t low ≡ true → Ended net allowance (ByLength t)
     ended-met j s a e =
         let some = met-some j s e in
         Ended.by-length j (record { tally-is = s; some = some; allowed = a }) (sym (met-by-length s some low (planning .floor-is)) ∙ e)
 
     -- the allowance ended within a single length
-    pub ended-stopped : (u : Tally) → Stepped (routesIn net) allowance (notOver u) → allowance < length (routesIn net) → Ended net allowance (endedAt u low)
+    pub ended-stopped : (u : Tally) → Stepped (judgedIn net) (routesIn net) allowance (notOver u) → allowance < length (routesIn net) → Ended net allowance (endedAt u low)
     unfolding endedAt
     ended-stopped u s more = go (metBy (notOver u) low) refl
       where
@@ -105,7 +124,7 @@ module _ (net : List ℕ) (words : Net net) where
     -- ---- one window
 
     module _ {t : Tally} {cur width : ℕ} (turning : Turning net allowance t cur width) (hi cap : ℕ) (hi-is : hi ≡ min (cur + width) (meshIn net .reach)) (low-cap : t .ranked ≤ cap) (cap-range : cap ≤ allowance)
-        (r : Swept) (swept : SweptAll (meshIn net) (record { lo = cur; hi = hi; cap = cap }) t r) where
+        (r : Swept) (swept : SweptAll (apartOnly net) (meshIn net) (record { lo = cur; hi = hi; cap = cap }) t r) where
       abbrev window : Window
       window = record { lo = cur; hi = hi; cap = cap }
 
@@ -116,22 +135,22 @@ module _ (net : List ℕ) (words : Net net) where
       near = omega arith
 
       -- one that did not give up is that of all routes up to its end, and so of all shorter than what was cut off
-      pub window-further : r .tally .over ≡ false → Stepped (routesIn net) (count (shorter (r .cut)) (routesIn net)) (r .tally) × (r .tally .ranked ≤ allowance)
+      pub window-further : r .tally .over ≡ false → Stepped (judgedIn net) (routesIn net) (count (shorter (r .cut)) (routesIn net)) (r .tally) × (r .tally .ranked ≤ allowance)
       window-further o =
-          let s = stepped-window (meshIn net) (words .reach-range) window wide near t (r .tally) (turning .tally-is) (swept .tally-is) o in
+          let s = stepped-window (apartOnly net) (meshIn net) (net-regular net words) (words .reach-range) window wide near t (r .tally) (turning .tally-is) (swept .tally-is) o in
           let c = cut-count (meshIn net) hi (r .cut) (swept .none-between o) (swept .cut-past) in
-          let most = stepped-cap (meshIn net) (words .reach-range) window wide near t (r .tally) (turning .tally-is) (swept .tally-is) low-cap o in
-          (subst (λ (j : ℕ). Stepped (routesIn net) j (r .tally)) (sym c) s, omega (arith, s .ranked-is))
+          let most = stepped-cap (apartOnly net) (meshIn net) (net-regular net words) (words .reach-range) window wide near t (r .tally) (turning .tally-is) (swept .tally-is) low-cap o in
+          (subst (λ (j : ℕ). Stepped (judgedIn net) (routesIn net) j (r .tally)) (sym c) s, omega (arith, s .ranked-is))
 
       pub cut-further : cur < r .cut
       cut-further = omega (arith, wide, swept .cut-past)
 
       -- one that gave up within a single length is that of the allowance's last step
-      pub window-stopped : r .tally .over ≡ true → hi ≡ cur → cap ≡ allowance → Stepped (routesIn net) allowance (notOver (r .tally)) × (allowance < length (routesIn net))
+      pub window-stopped : r .tally .over ≡ true → hi ≡ cur → cap ≡ allowance → Stepped (judgedIn net) (routesIn net) allowance (notOver (r .tally)) × (allowance < length (routesIn net))
       window-stopped o one full =
-          let s = stepped-stopped (meshIn net) (words .reach-range) window wide near t (r .tally) (turning .tally-is) (swept .tally-is) one low-cap o in
-          let more = over-some (meshIn net) (words .reach-range) window wide near t (r .tally) (turning .tally-is) (swept .tally-is) o in
-          (subst (λ (j : ℕ). Stepped (routesIn net) j (notOver (r .tally))) full s, omega (arith, length-keep (within hi) (routesIn net)))
+          let s = stepped-stopped (apartOnly net) (meshIn net) (net-regular net words) (words .reach-range) window wide near t (r .tally) (turning .tally-is) (swept .tally-is) one low-cap o in
+          let more = over-some (apartOnly net) (meshIn net) (net-regular net words) (words .reach-range) window wide near t (r .tally) (turning .tally-is) (swept .tally-is) o in
+          (subst (λ (j : ℕ). Stepped (judgedIn net) (routesIn net) j (notOver (r .tally))) full s, omega (arith, length-keep (within hi) (routesIn net)))
 
     -- ---- the loop
 
@@ -141,9 +160,9 @@ module _ (net : List ℕ) (words : Net net) where
         let none = cut-none (meshIn net) cur
         (λ ks x. omega (arith, words .lower (meshIn net .source) (words .source-node) (grow-way (arcsIn net) (meshIn net .terminal) mostArcs (with 0 (meshIn net .source)) (meshIn net .source) x)))
         in
-        let start : Stepped (routesIn net) 0 t = subst (λ (x : Tally). Stepped (routesIn net) 0 x) (sym e) (stepped-start (routesIn net)) in
+        let start : Stepped (judgedIn net) (routesIn net) 0 t = subst (λ (x : Tally). Stepped (judgedIn net) (routesIn net) 0 x) (sym e) (stepped-start (judgedIn net) (routesIn net)) in
         record {
-          tally-is = subst (λ (j : ℕ). Stepped (routesIn net) j t) (sym none) start;
+          tally-is = subst (λ (j : ℕ). Stepped (judgedIn net) (routesIn net) j t) (sym none) start;
           allowed = omega (arith, start .ranked-is);
           not-met = met-none start low floor-range;
           width-range = h;

@@ -1,7 +1,7 @@
 -- From the words that a call is read into to what planning promises; and whether there is a route, by the source's shortest way. Assumes nothing.
-use mathlib.Core.Path.{_≡_, refl, sym, ap, _∙_, subst}
+use mathlib.Core.Path.{_≡_, refl, sym, ap, ap₂, _∙_, subst}
 use mathlib.Core.Logic.{_⊎_, inl, inr}
-use mathlib.Core.Bool.{true, false, true≢false, false≢true}
+use mathlib.Core.Bool.{Bool, true, false, true≢false, false≢true}
 use mathlib.Core.List.{List, [], _∷_, List·Memᴰ, List·Memᴰ·head, List·Memᴰ·tail}
 use Prim.Native.Nat.{ℕ, _-_, _%_, _≤_, _<_}
 use native.Mathlib.Nat.{zero-add}
@@ -13,25 +13,27 @@ use Rattle.problem.specs.declared.Exposure.{Exposure}
 use Rattle.problem.specs.declared.Request.{Request}
 use Rattle.problem.specs.Table.{mostTableBytes, mostAllowance, arcsOf, over, allSound}
 use Rattle.problem.specs.Exposures.{toNothing, size}
-use Rattle.problem.specs.Routes.{arcAt, IsWay, Route, ranking}
-use Rattle.problem.specs.Pairs.{onEvery, floor}
+use Rattle.problem.specs.Routes.{Mesh, arcAt, IsWay, Route, ranking}
+use Rattle.problem.specs.Pairs.{Pair, pair, onEvery, floor, best, ranked}
+use Rattle.problem.specs.Apart.{judges}
 use Rattle.problem.specs.Spans.{mark, markedArcs}
 use Rattle.problem.specs.Closed.{shut, shutIn}
 use Rattle.problem.specs.Reply.{meshOver, Checked}
 use Rattle.problem.proofs.RankingLaws.{Listed, ranking-out}
 use Rattle.problem.proofs.WayLaws.{way-route}
-use Rattle.problem.proofs.PathLaws.{sound-heads}
+use Rattle.problem.proofs.PathLaws.{LowHeads, sound-heads}
+use Rattle.problem.proofs.SameLaws.{same-some, same-best, same-ranked, same-verdict}
 use Rattle.problem.proofs.TableLaws.{arcs-length}
 use Rattle.problem.proofs.SpanLaws.{marked-at, mark-unknown, unspanned-same, marked-sound}
 use Rattle.problem.proofs.ClosedLaws.{closed-none}
 use Rattle.octets.specs.Puts.{Puts}
 use Rattle.octets.proofs.PutLaws.{puts-taken}
 use Rattle.closed.specs.Turned.{turnedIn}
-use Rattle.closed.proofs.TurnedLaws.{turned-sound, turned-span, ranking-turned}
+use Rattle.closed.proofs.TurnedLaws.{turned-sound, turned-span, ranking-turned, judges-turned}
 use Rattle.side.specs.declared.Distance.{Distance}
 use Rattle.side.specs.Side.{SideTable, reachedAt, metresAt}
 use Rattle.floor.proofs.ClearLaws.{way-free}
-use Rattle.net.specs.Net.{routesIn}
+use Rattle.net.specs.Net.{meshIn, toBe, apartOnly, judgedIn}
 use Rattle.layout.specs.Layout.{LaidOut}
 use Rattle.plan.specs.Plan.{Planning}
 use Rattle.choose.specs.declared.Choice.{Choice}
@@ -40,7 +42,23 @@ use Rattle.spans.specs.Marks.{NoSpan, markedTable}
 use Rattle.spans.proofs.MarkLaws.{table-length, marked-arcs}
 use Rattle.planner.specs.declared.Ready.{Ready}
 use Rattle.planner.specs.declared.Made.{Made}
-use Rattle.planner.specs.Planner.{Laid, Reads, Planned}
+use Rattle.planner.specs.Planner.{Laid, Reads, PairMade, Planned, PlannedOver}
+
+-- what is chosen by one test is chosen by another that says the same of every pair of routes
+chosen-same : (ok ok′ : Pair → Bool) (routes : List Route) → ((r s : Route) → List·Memᴰ r routes → List·Memᴰ s routes → ok (pair r s) ≡ ok′ (pair r s)) → {allowance : ℕ} {c : Choice}
+    → Chosen ok routes allowance c → Chosen ok′ routes allowance c
+chosen-same ok ok′ routes same {allowance} {c} o =
+    record {
+      main-fit = o .main-fit;
+      standby-fit = o .standby-fit;
+      some = λ e. let p = o .some (same-some ok ok′ routes same allowance ∙ e) in
+          record {
+            verdict-is = p .verdict-is ∙ same-verdict ok ok′ routes same allowance;
+            ranked-is = p .ranked-is ∙ same-ranked ok ok′ routes same allowance;
+            pair-is = p .pair-is ∙ same-best ok ok′ routes same (ranked ok routes allowance) ∙ ap (best ok′ routes) (same-ranked ok ok′ routes same allowance);
+          };
+      none = λ e. o .none (same-some ok ok′ routes same allowance ∙ e);
+    }
 
 module _ {table : List ℕ} {q : Request} (checked : Checked table q) where
   abbrev routes : List Route
@@ -52,10 +70,13 @@ module _ {table : List ℕ} {q : Request} (checked : Checked table q) where
   unfolding floor
   floor-counted e f = f ∙ ap size e
 
-  pub read-some : {side : List Distance} {net : List ℕ} → LaidOut (meshOver (arcsOf table) q) side net → 0 < length routes → {low : ℕ} → low ≡ floor routes
-      → Reads routes net (record { found = true; floor = low })
+  pub read-some : {side : List Distance} {apart : ℕ} {net : List ℕ} → LaidOut (meshOver (arcsOf table) q) side apart net → 0 < length routes → {low : ℕ} → low ≡ floor routes
+      → Reads (toBe apart) (meshOver (arcsOf table) q) net (record { found = true; floor = low })
   read-some l some e =
-      record { none = λ f. absurd (true≢false f); some = λ f. record { words = l .words; routes-are = ap ranking (l .mesh-is); some-route = some; floor-is = e } }
+      record {
+        none = λ f. absurd (true≢false f);
+        some = λ f. record { words = l .words; routes-are = ap ranking (l .mesh-is); judged-are = λ r s x y. ap₂ (λ (m : Mesh) (a : ℕ). judges m (toBe a) (pair r s)) (l .mesh-is) (l .apart-is); some-route = some; floor-is = e };
+      }
 
   -- ---- whether there is a route
 
@@ -64,7 +85,7 @@ module _ {table : List ℕ} {q : Request} (checked : Checked table q) where
     abbrev Far : Type 0
     Far = (reachedAt side (q .source) ≡ false) ⊎ (q .reach < metresAt side (q .source))
 
-    pub read-none : {r : Ready} {net : List ℕ} → r .found ≡ false → Far → Reads routes net r
+    pub read-none : {only : Bool} {r : Ready} {net : List ℕ} → r .found ≡ false → Far → Reads only (meshOver (arcsOf table) q) net r
     read-none f far = record { none = λ g. go routes (λ r x. out (ranking-out (meshOver (arcsOf table) q) x) far); some = λ g. absurd (false≢true (sym f ∙ g)) }
       where
         out : {r : Route} → Listed (meshOver (arcsOf table) q) r → Far → ⊥
@@ -88,33 +109,41 @@ module _ {table : List ℕ} {q : Request} (checked : Checked table q) where
 
 -- ---- a net planned over
 
-pub laid-planning : {routes : List Route} {net : List ℕ} {allowance low : ℕ} → Laid routes net low → 0 < allowance → allowance ≤ mostAllowance → Planning net allowance low
-laid-planning l some few = record { some-route = rw (← l .routes-are) at (l .some-route); some-allowance = some; few = few; floor-is = rw (← l .routes-are) at (l .floor-is) }
+module _ {only : Bool} {m : Mesh} {net : List ℕ} {low : ℕ} (l : Laid only m net low) where
+  -- the words' own routes and pairs are those that they say
+  pub laid-own : Laid (apartOnly net) (meshIn net) net low
+  laid-own = record { words = l .words; routes-are = refl; judged-are = λ r s x y. refl; some-route = rw (← l .routes-are) at (l .some-route); floor-is = rw (← l .routes-are) at (l .floor-is) }
 
--- the words' own routes are those that they say
-pub laid-own : {routes : List Route} {net : List ℕ} {low : ℕ} → Laid routes net low → Laid (routesIn net) net low
-laid-own {net = net} {low} l = subst (λ (routes : List Route). Laid routes net low) (sym (l .routes-are)) l
+  pub laid-planning : {allowance : ℕ} → 0 < allowance → allowance ≤ mostAllowance → Planning net allowance low
+  laid-planning some few = record { some-route = laid-own .some-route; some-allowance = some; few = few; floor-is = laid-own .floor-is }
 
-pub made-planned : {routes : List Route} {net : List ℕ} {allowance low : ℕ} → Laid routes net low → {c : Choice} → Chosen routes allowance c
-    → Planned routes allowance (record { found = true; floor = low; choice = c })
-made-planned l h = record { none = λ f. absurd (true≢false f); some = λ f. record { some-route = l .some-route; floor-is = l .floor-is; chosen = h } }
+  -- so what is planned over the words is planned over the mesh
+  planned-over : {allowance : ℕ} {p : Made} → PlannedOver (apartOnly net) (meshIn net) allowance p → PlannedOver only m allowance p
+  planned-over {allowance} {p} made = record { none = λ e. sym (l .routes-are) ∙ made .none e; some = λ e. over (subst (λ (routes : List Route). PairMade (judgedIn net) routes allowance p) (l .routes-are) (made .some e)) }
+    where
+      over : PairMade (judgedIn net) (ranking m) allowance p → PairMade (judges m only) (ranking m) allowance p
+      over o = record { some-route = o .some-route; floor-is = o .floor-is; chosen = chosen-same (judgedIn net) (judges m only) (ranking m) (l .judged-are) (o .chosen) }
 
-module _ {routes : List Route} {net : List ℕ} {r : Ready} (read : Reads routes net r) {allowance : ℕ} {m : Made} where
+pub made-planned : {ok : Pair → Bool} {routes : List Route} {allowance low : ℕ} → 0 < length routes → low ≡ floor routes → {c : Choice} → Chosen ok routes allowance c
+    → Planned ok routes allowance (record { found = true; floor = low; choice = c })
+made-planned some e h = record { none = λ f. absurd (true≢false f); some = λ f. record { some-route = some; floor-is = e; chosen = h } }
+
+module _ {only : Bool} {m : Mesh} {net : List ℕ} {r : Ready} (read : Reads only m net r) {allowance : ℕ} {p : Made} where
   -- nothing is found where there is no route
-  pub none-planned : r .found ≡ false → m .found ≡ false → Planned routes allowance m
+  pub none-planned : r .found ≡ false → p .found ≡ false → PlannedOver only m allowance p
   none-planned e f = record { none = λ g. read .none e; some = λ g. absurd (false≢true (sym f ∙ g)) }
 
-  pub some-planned : r .found ≡ true → Planned (routesIn net) allowance m → Planned routes allowance m
-  some-planned e p = subst (λ (l : List Route). Planned l allowance m) (read .some e .routes-are) p
+  pub some-planned : r .found ≡ true → PlannedOver (apartOnly net) (meshIn net) allowance p → PlannedOver only m allowance p
+  some-planned e o = planned-over (read .some e) o
 
 -- ---- the arcs that a call is planned over
 
 -- the same arcs, the same routes
-reads-over : (q : Request) {arcs more : List Arc} {net : List ℕ} {r : Ready} → arcs ≡ more → Reads (ranking (meshOver arcs q)) net r → Reads (ranking (meshOver more q)) net r
-reads-over q {net = net} {r} e p = subst (λ (l : List Arc). Reads (ranking (meshOver l q)) net r) e p
+reads-over : (q : Request) {only : Bool} {arcs more : List Arc} {net : List ℕ} {r : Ready} → arcs ≡ more → Reads only (meshOver arcs q) net r → Reads only (meshOver more q) net r
+reads-over q {only} {net = net} {r} e p = subst (λ (l : List Arc). Reads only (meshOver l q) net r) e p
 
 -- where no arc has a span, they are those of the table
-pub reads-unspanned : (table : List ℕ) (q : Request) {net : List ℕ} {r : Ready} → NoSpan (arcsOf table) → Reads (ranking (meshOver (arcsOf table) q)) net r → Reads (ranking (meshOver (markedArcs table) q)) net r
+pub reads-unspanned : (table : List ℕ) (q : Request) {only : Bool} {net : List ℕ} {r : Ready} → NoSpan (arcsOf table) → Reads only (meshOver (arcsOf table) q) net r → Reads only (meshOver (markedArcs table) q) net r
 reads-unspanned table q none p = reads-over q (sym (unspanned-same (arcsOf table) none)) p
 
 -- else those of the table written anew, which passes the checks as well
@@ -139,7 +168,7 @@ module _ {table : List ℕ} {q : Request} (checked : Checked table q) where
   pub checked-marked : Checked (markedTable table) q
   checked-marked = checked-as marked-size (ap allSound (marked-arcs table (checked .few-bytes)) ∙ marked-sound (arcsOf table) (checked .sound))
 
-  pub reads-marked : {net : List ℕ} {r : Ready} → Reads (ranking (meshOver (arcsOf (markedTable table)) q)) net r → Reads (ranking (meshOver (markedArcs table) q)) net r
+  pub reads-marked : {only : Bool} {net : List ℕ} {r : Ready} → Reads only (meshOver (arcsOf (markedTable table)) q) net r → Reads only (meshOver (markedArcs table) q) net r
   reads-marked p = reads-over q (marked-arcs table (checked .few-bytes)) p
 
   -- its bytes, as the part of the buffer that was written
@@ -178,12 +207,37 @@ module _ {table : List ℕ} {q : Request} (checked : Checked table q) (closed : 
       ap (λ (arcs : List Arc). arcAt arcs k .span) says ∙ turned-span closed (q .terminal) (q .source) (markedArcs table) k ∙ ap (λ (a : Arc). a .span) (marked-at (arcsOf table) k)
       ∙ ap (mark (arcsOf table)) (none k (omega (arith, h, arcs-length part, arcs-length table, size))) ∙ mark-unknown (arcsOf table)
 
-  pub reads-turned : {net : List ℕ} {r : Ready} → Reads (ranking (meshOver (arcsOf part) q)) net r → Reads (ranking (meshOver (shutIn closed (markedArcs table)) q)) net r
-  reads-turned {net} {r} p =
-      subst (λ (routes : List Route). Reads routes net r)
-      (ap (λ (arcs : List Arc). ranking (meshOver arcs q)) says ∙ ranking-turned closed (q .source) (markedArcs table) q (sound-heads (markedArcs table) marked-is-sound) (checked .source-node)) p
+  pub reads-turned : {only : Bool} {net : List ℕ} {r : Ready} → Reads only (meshOver (arcsOf part) q) net r → Reads only (meshOver (shutIn closed (markedArcs table)) q) net r
+  reads-turned {only} {net} {r} p = go (reads-over q says p)
+    where
+      heads : LowHeads (markedArcs table)
+      heads = sound-heads (markedArcs table) marked-is-sound
+
+      same : ranking (meshOver (turnedIn closed (q .terminal) (q .source) (markedArcs table)) q) ≡ ranking (meshOver (shutIn closed (markedArcs table)) q)
+      same = ranking-turned closed (q .source) (markedArcs table) q heads (checked .source-node)
+
+      laid : Laid only (meshOver (turnedIn closed (q .terminal) (q .source) (markedArcs table)) q) net (r .floor) → Laid only (meshOver (shutIn closed (markedArcs table)) q) net (r .floor)
+      laid l = record {
+        words = l .words;
+        routes-are = l .routes-are ∙ same;
+        judged-are = λ u s x y.
+            l .judged-are u s (subst (λ (routes : List Route). List·Memᴰ u routes) (sym same) x) (subst (λ (routes : List Route). List·Memᴰ s routes) (sym same) y)
+            ∙ judges-turned closed (q .source) (markedArcs table) q only heads (checked .source-node) x y;
+        some-route = subst (λ (routes : List Route). 0 < length routes) same (l .some-route);
+        floor-is = l .floor-is ∙ ap floor same;
+      }
+
+      go : Reads only (meshOver (turnedIn closed (q .terminal) (q .source) (markedArcs table)) q) net r → Reads only (meshOver (shutIn closed (markedArcs table)) q) net r
+      go o = record { none = λ e. sym same ∙ o .none e; some = λ e. laid (o .some e) }
 
 -- where nothing is closed they stay as they are
-pub reads-open : (table : List ℕ) (q : Request) {closed : ℕ} {net : List ℕ} {r : Ready} → closed ≡ 0 → Reads (ranking (meshOver (markedArcs table) q)) net r
-    → Reads (ranking (meshOver (shutIn closed (markedArcs table)) q)) net r
-reads-open table q none p = reads-over q (sym (ap (λ (set : ℕ). shutIn set (markedArcs table)) none ∙ closed-none shut 0 (markedArcs table))) p
+open-same : (table : List ℕ) {closed : ℕ} → closed ≡ 0 → shutIn closed (markedArcs table) ≡ markedArcs table
+open-same table none = ap (λ (set : ℕ). shutIn set (markedArcs table)) none ∙ closed-none shut 0 (markedArcs table)
+
+pub reads-open : (table : List ℕ) (q : Request) {only : Bool} {closed : ℕ} {net : List ℕ} {r : Ready} → closed ≡ 0 → Reads only (meshOver (markedArcs table) q) net r
+    → Reads only (meshOver (shutIn closed (markedArcs table)) q) net r
+reads-open table q none p = reads-over q (sym (open-same table none)) p
+
+pub open-reads : (table : List ℕ) (q : Request) {only : Bool} {closed : ℕ} {net : List ℕ} {r : Ready} → closed ≡ 0 → Reads only (meshOver (shutIn closed (markedArcs table)) q) net r
+    → Reads only (meshOver (markedArcs table) q) net r
+open-reads table q none p = reads-over q (open-same table none) p

@@ -1,14 +1,16 @@
--- Calls with a closed set: their ways and routes are those over open arcs; a set that passes its check changes no other check, and one that closes nothing, or nothing that lies on a
--- route, changes no answer. Assumes nothing.
-use mathlib.Core.Path.{_≡_, refl, sym, ap, _∙_, subst}
-use mathlib.Core.Bool.{Bool, true, false, true≢false}
-use mathlib.Core.Logic.{_↔_}
+-- Calls with a closed set: their ways and routes are those over open arcs, and lists are apart as over all arcs; a set that passes its check changes no other check, and one that closes
+-- nothing, or nothing that lies on a route, changes no answer. Assumes nothing.
+use mathlib.Core.Path.{_≡_, refl, sym, ap, ap₂, _∙_, subst, fun-ext}
+use mathlib.Core.Bool.{Bool, true, false, _&&_, _||_, not, true≢false}
+use mathlib.Core.Logic.{inl, _↔_}
 use mathlib.Core.List.{List, List·Memᴰ}
 use Prim.Native.Nat.{ℕ, zero, suc, _≤_, _^_}
 use native.Mathlib.Omega.{arith}
+use lib.Dec.{eqb}
 use lib.ListN.{length}
 use lib.Pow.{pow-pos}
 use borrow.Author.Tests.{lt-ltb, eqb-false, eq-eqb}
+use Rattle.laws.specs.Choosing.{keep}
 use Rattle.laws.specs.Sets.{bit}
 use Rattle.laws.proofs.SetLaws.{bit-empty}
 use Rattle.laws.proofs.SortLaws.{strict-unique}
@@ -19,11 +21,14 @@ use Rattle.problem.specs.Table.{lastNode, arcsOf, allSound}
 use Rattle.problem.specs.Spans.{markedArcs}
 use Rattle.problem.specs.Closed.{closedSize, closedIn, isOpen, AllOpen, noneClosed, plannedArcs}
 use Rattle.problem.specs.Exposures.{disjoint}
-use Rattle.problem.specs.Routes.{metresOf, IsWay, IsRoute, Route, routeOf, precedes, ranking, FreeWay}
-use Rattle.problem.specs.Reply.{meshOver, meshOf, firstNumber, sizeChecks, requestChecks, arcChecks, blankChecks, closedChecks, plainChecks, refusal, ClosedSet, planned, plannedUnless, answerAround, answer}
+use Rattle.problem.specs.Routes.{metresOf, IsWay, IsRoute, Route, routeOf, precedes, FreeWay}
+use Rattle.problem.specs.Pairs.{Pair}
+use Rattle.problem.specs.Apart.{Apart, noneInBoth, innerNodes, listsApart, judges}
+use Rattle.problem.specs.Reply.{meshOver, meshOf, firstNumber, sizeChecks, requestChecks, arcChecks, blankChecks, closedChecks, plainChecks, refusal, ClosedSet, planned, plannedUnless, answerAmong, answer}
 use Rattle.problem.specs.Calls.{routesOf, RouteOf, WayOf, Applies, ClosesAside, answerOverAll}
-use Rattle.problem.proofs.ClosedLaws.{shut-metres-of, shut-exposure-of, shut-route, none-closed, planned-heads, planned-ways, planned-paths, planned-unclosed}
+use Rattle.problem.proofs.ClosedLaws.{shut-metres-of, shut-exposure-of, shut-route, shut-nodes, none-closed, planned-heads, planned-ways, planned-paths, planned-unclosed}
 use Rattle.problem.proofs.RankingLaws.{Listed, precedes-weak, ranking-in, ranking-out, ranking-strict}
+use Rattle.problem.proofs.ApartLaws.{apart-exactly}
 use Rattle.problem.proofs.RefusalLaws.{turn-sixteen}
 use Rattle.problem.proofs.ReplyLaws.{refusal-passed}
 use Rattle.problem.proofs.CallLaws.{numbered}
@@ -58,6 +63,28 @@ free-open table closed sound banned terminal v node ks =
       λ f. record { way = w .1 (f .0 .way, f .1); free = same ∙ f .0 .free },
     )
 
+-- ---- which lists are apart
+
+-- a closed arc keeps its head, so lists meet the same nodes
+module _ (table closed : List ℕ) (q : Request) where
+  lists-around : (ks ls : List ℕ) → listsApart (meshOf table closed q) ks ls ≡ listsApart (meshOver (markedArcs table) q) ks ls
+  unfolding listsApart innerNodes
+  lists-around ks ls =
+      ap₂ (λ (x y : List ℕ). noneInBoth ks ls && noneInBoth (keep inner x) (keep inner y)) (shut-nodes (closedIn closed) (markedArcs table) (q .source) ks) (shut-nodes (closedIn closed) (markedArcs table) (q .source) ls)
+    where
+      inner : ℕ → Bool
+      inner v = not (eqb v (q .source) || eqb v (q .terminal))
+
+  judges-around : (only : Bool) → judges (meshOf table closed q) only ≡ judges (meshOver (markedArcs table) q) only
+  unfolding judges
+  judges-around only = fun-ext (λ (p : Pair). ap (λ (b : Bool). not only || b) (lists-around (p .main .arcs) (p .standby .arcs)))
+
+  pub apart-around : (ks ls : List ℕ) → Apart (meshOf table closed q) ks ls ↔ Apart (meshOver (markedArcs table) q) ks ls
+  apart-around ks ls =
+      let one = apart-exactly (meshOf table closed q) ks ls in
+      let other = apart-exactly (meshOver (markedArcs table) q) ks ls in
+      (λ a. other .0 (sym (lists-around ks ls) ∙ one .1 a), λ a. one .0 (lists-around ks ls ∙ other .1 a))
+
 -- ---- the check of the set
 
 -- a set that passes its check leaves the first number to the other checks
@@ -71,16 +98,14 @@ none-set table = record { whole = refl; inside = omega (arith, none-closed, pow-
 
 -- with nothing closed: the answer over all arcs
 pub over-all : (table : List ℕ) (q : Request) (size : ℕ) → answer table q size ≡ answerOverAll table q size
-unfolding answerAround plannedUnless
-over-all table q size = ap (λ (n : ℕ). plannedUnless n (plannedArcs table noneClosed) q) (set-quiet (none-set table) q size) ∙ go (firstNumber (plainChecks table q size))
-  where
-    go : (n : ℕ) → plannedUnless n (plannedArcs table noneClosed) q ≡ plannedUnless n (markedArcs table) q
-    go zero = ap (λ (arcs : List Arc). planned (ranking (meshOver arcs q)) (q .allowance)) (planned-unclosed table)
-    go (suc n) = refl
+unfolding answerAmong
+over-all table q size =
+    ap (λ (n : ℕ). plannedUnless false n (plannedArcs table noneClosed) q) (set-quiet (none-set table) q size)
+    ∙ ap (λ (arcs : List Arc). plannedUnless false (firstNumber (plainChecks table q size)) arcs q) (planned-unclosed table)
 
 pub never-sixteen : (table : List ℕ) (q : Request) (size : ℕ) → answer table q size .number ≡ 16 → ⊥
 never-sixteen table q size e =
-    let told = numbered table noneClosed q size 16 (omega arith) .0 e in
+    let told = numbered false table noneClosed q size 16 (omega arith) (inl refl) .0 e in
     go (subst (λ (t : ℕ). Applies table noneClosed q size t 16) (turn-sixteen table noneClosed q size (told .applies)) (told .applies))
   where
     go : {i : ℕ} → Applies table noneClosed q size 11 i → ⊥
@@ -128,16 +153,17 @@ module _ {table closed more : List ℕ} {q : Request} (c : ClosesAside table clo
     λ m. listed-too closed more (λ ks. same-routes ks .0) m,
   ))
 
-pub aside-same : {table closed more : List ℕ} {q : Request} → ClosedSet table closed → ClosedSet table more → ClosesAside table closed more q → (size : ℕ)
-    → answerAround table more q size ≡ answerAround table closed q size
-unfolding answerAround plannedUnless
-aside-same {table} {closed} {more} {q} s t c size = ap (λ (n : ℕ). plannedUnless n (plannedArcs table more) q) same ∙ go (refusal table closed q size) refl
+pub aside-same : (only : Bool) {table closed more : List ℕ} {q : Request} → ClosedSet table closed → ClosedSet table more → ClosesAside table closed more q → (size : ℕ)
+    → answerAmong only table more q size ≡ answerAmong only table closed q size
+unfolding answerAmong plannedUnless
+aside-same only {table} {closed} {more} {q} s t c size = ap (λ (n : ℕ). plannedUnless only n (plannedArcs table more) q) same ∙ go (refusal table closed q size) refl
   where
     same : refusal table more q size ≡ refusal table closed q size
     same = set-quiet t q size ∙ sym (set-quiet s q size)
 
-    go : (n : ℕ) → refusal table closed q size ≡ n → plannedUnless n (plannedArcs table more) q ≡ plannedUnless n (plannedArcs table closed) q
+    go : (n : ℕ) → refusal table closed q size ≡ n → plannedUnless only n (plannedArcs table more) q ≡ plannedUnless only n (plannedArcs table closed) q
     go zero e =
         let p = refusal-passed table closed q size e in
-        ap (λ (routes : List Route). planned routes (q .allowance)) (same-ranking c (p .checked .sound) (p .checked .source-node))
+        ap₂ (λ (ok : Pair → Bool) (routes : List Route). planned ok routes (q .allowance)) (judges-around table more q only ∙ sym (judges-around table closed q only))
+        (same-ranking c (p .checked .sound) (p .checked .source-node))
     go (suc n) e = refl

@@ -1,13 +1,14 @@
 -- Candidates: the pairs that pass a test, with their mains among the first of the ranking; whether there are any, and the best of them. Assumes nothing.
-use mathlib.Core.Path.{_≡_, refl}
-use mathlib.Core.Bool.{Bool, true, false, not, false≢true}
-use mathlib.Core.List.{List, [], _∷_, List·Memᴰ, List·Memᴰ·head, List·Memᴰ·not-nil}
+use mathlib.Core.Path.{_≡_, refl, sym, _∙_}
+use mathlib.Core.Bool.{Bool, true, false, not, true≢false, false≢true}
+use mathlib.Core.Logic.{_↔_}
+use mathlib.Core.List.{List, [], _∷_, List·Memᴰ, List·Memᴰ·head, List·Memᴰ·not-nil, Memᴰ·cast}
 use Prim.Native.Nat.{ℕ, _≤_}
 use native.Mathlib.Omega.{arith}
 use lib.Dec.{eqb}
 use lib.ListN.{length, take}
 use borrow.Author.Tests.{ne-eqb}
-use Rattle.laws.proofs.ListLaws.{getD-mem, getD-take-mem, take-more, take-mem, keep-in, keep-out}
+use Rattle.laws.proofs.ListLaws.{mem-place, getD-mem, getD-take-mem, take-more, take-mem, keep-in, keep-out}
 use Rattle.laws.proofs.FirstLaws.{first-mem, first-least}
 use Rattle.problem.specs.Routes.{Route}
 use Rattle.problem.specs.Pairs.{Pair, pair, sharedCount, total, judged, NoWorse, pairsOf, noRoute, Step, every, candidates, someAt, best}
@@ -75,6 +76,21 @@ module _ (ok : Pair → Bool) (routes : List Route) where
 
   pub some-more : {i j : ℕ} → i ≤ j → someAt ok routes i ≡ true → someAt ok routes j ≡ true
   some-more {i} {j} l h = let c = best-in i h in some-with j (take-more noRoute routes l (c .main-in)) (c .standby-in) (c .passes)
+
+  -- from N on every route is a main, so there are no more
+  pub some-among : (i : ℕ) → length routes ≤ i → {m s : Route} → List·Memᴰ m routes → List·Memᴰ s routes → ok (pair m s) ≡ true → someAt ok routes i ≡ true
+  some-among i l x y e = let p = mem-place noRoute x in some-with i (Memᴰ·cast (p .is) (getD-take-mem noRoute i routes (p .at) (omega (arith, p .inside)) (p .inside))) y e
+
+  pub some-all : (i j : ℕ) → length routes ≤ i → someAt ok routes j ≡ true → someAt ok routes i ≡ true
+  some-all i j l h = let c = best-in j h in some-among i l (best-main j h) (c .standby-in) (c .passes)
+
+  -- there is none exactly where no pair with its main among the first j passes
+  pub none-passes : (j : ℕ) → (someAt ok routes j ≡ false) ↔ ((m s : Route) → List·Memᴰ m (take j routes) → List·Memᴰ s routes → ok (pair m s) ≡ true → ⊥)
+  none-passes j = (λ none m s x y e. true≢false (sym (some-with j x y e) ∙ none), λ f. go f (someAt ok routes j) refl)
+    where
+      go : ((m s : Route) → List·Memᴰ m (take j routes) → List·Memᴰ s routes → ok (pair m s) ≡ true → ⊥) → (b : Bool) → someAt ok routes j ≡ b → someAt ok routes j ≡ false
+      go f true e = let c = best-in j e in absurd (f (best ok routes j .main) (best ok routes j .standby) (c .main-in) (c .standby-in) (c .passes))
+      go f false e = e
 
   -- with more mains the best pair is no worse
   pub best-mono : {i j : ℕ} → someAt ok routes i ≡ true → i ≤ j

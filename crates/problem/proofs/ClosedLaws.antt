@@ -104,7 +104,7 @@ module _ (set : ℕ) (arcs : List Arc) where
   pub shut-route : (ks : List ℕ) → routeOf around ks ≡ routeOf arcs ks
   shut-route = route-alike around arcs shut-metres shut-exposure
 
-  shut-nodes : (v : ℕ) (ks : List ℕ) → nodesFrom around v ks ≡ nodesFrom arcs v ks
+  pub shut-nodes : (v : ℕ) (ks : List ℕ) → nodesFrom around v ks ≡ nodesFrom arcs v ks
   unfolding nodesFrom
   shut-nodes v [] = refl
   shut-nodes v (k ∷ ks) = ap (λ (l : List ℕ). v ∷ l) (ap (λ (h : ℕ). nodesFrom around h ks) (shut-head k) ∙ shut-nodes (arcAt arcs k .head) ks)

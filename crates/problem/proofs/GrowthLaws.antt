@@ -23,9 +23,9 @@ module _ {S : Type 0} where
   fold-idle visit s [] f = refl
   fold-idle visit s (ks ∷ l) f = rw (f ks (List·Memᴰ·head refl)) (fold-idle visit s l (λ x m. f x (List·Memᴰ·tail m)))
 
-  pub fold-same : (visit other : S → List ℕ → S) → ((s : S) (ks : List ℕ) → visit s ks ≡ other s ks) → (s : S) (l : List (List ℕ)) → foldl visit s l ≡ foldl other s l
-  fold-same visit other f s [] = refl
-  fold-same visit other f s (ks ∷ l) = rw (f s ks) (fold-same visit other f (other s ks) l)
+  pub fold-same : (visit other : S → List ℕ → S) (s : S) (l : List (List ℕ)) → ((t : S) (ks : List ℕ) → List·Memᴰ ks l → visit t ks ≡ other t ks) → foldl visit s l ≡ foldl other s l
+  fold-same visit other s [] f = refl
+  fold-same visit other s (ks ∷ l) f = rw (f s ks (List·Memᴰ·head refl)) (fold-same visit other (other s ks) l (λ t x m. f t x (List·Memᴰ·tail m)))
 
   module _ (arcs : List Arc) (terminal : ℕ) (visit : S → List ℕ → S) where
     -- at the terminal there is only the end

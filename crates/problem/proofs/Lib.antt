@@ -14,12 +14,15 @@ pub mod PairLaws
 pub mod CandidateLaws
 pub mod SettleLaws
 pub mod WayLaws
+pub mod ApartLaws
+pub mod SameLaws
 pub mod FirstLaws
 pub mod RefusalLaws
 pub mod ReplyLaws
 pub mod CallLaws
 pub mod AroundLaws
 pub mod SaidLaws
+pub mod ApartCallLaws
 pub mod DigitLaws
 pub mod PrintedLaws
 pub mod MendLaws

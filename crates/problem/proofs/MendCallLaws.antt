@@ -141,7 +141,7 @@ module _ {table : List ℕ} (clean : Clean table) (closed : List ℕ) (q : Reque
     where
       go : (b : Bool) → ltb (answerAround table closed q size .number) 2 ≡ b → ForBlanksAlone (answerAround table closed q size .number)
       go true e = let low = ltb-true (answerAround table closed q size .number) 2 e in unless-blank (omega arith)
-      go false e = clean-applies (refused-told table closed q size (ltb-false _ _ e) .applies)
+      go false e = clean-applies (refused-told false table closed q size (ltb-false _ _ e) (inl refl) .applies)
 
 -- ---- what is left for a person
 

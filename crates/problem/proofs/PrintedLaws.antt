@@ -120,7 +120,7 @@ known-short (Known.of-an-arc low high) = omega arith
 -- an answer of the entry is printed as refused by a number of the entry
 entry-known : (input : List ℕ) (n : ℕ) → n < 10 ^ 10 → printed (answer (drop 16 input) (requestOf input) replySize) ≡ refusedText n → Known n
 entry-known input n h e =
-    let known = number-known (drop 16 input) noneClosed (requestOf input) replySize in
+    let known = number-known false (drop 16 input) noneClosed (requestOf input) replySize (inl refl) in
     subst Known (printed-number (answer (drop 16 input) (requestOf input) replySize) n (known-short known) h e) known
 
 pub twelve-exactly : (input : List ℕ) → (output input ≡ text "refused 12\n") ↔ Unreadable input

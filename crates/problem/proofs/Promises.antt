@@ -5,13 +5,13 @@
 use mathlib.Core.Path.{_≡_, refl, sym, ap, _∙_, subst}
 use mathlib.Core.Bool.{Bool, true, false}
 use mathlib.Core.Logic.{_⊎_, inl, inr, _↔_}
-use mathlib.Core.List.{List, [], _∷_, _++_, List·Memᴰ}
-use Prim.Native.Nat.{ℕ, zero, suc, _+_, _*_, _/_, _%_, _≤_, _<_, min}
+use mathlib.Core.List.{List, [], _∷_, List·Memᴰ, List·Memᴰ·head}
+use Prim.Native.Nat.{ℕ, _+_, _*_, _/_, _%_, _≤_, _<_, min}
 use native.Mathlib.Nat.{zero-add}
 use native.Mathlib.Omega.{arith}
 use lib.Dec.{eqb, ltb}
 use lib.ListN.{length, getD, take, drop, getD-replicate}
-use lib.Seq.{drop-append-seam, ext-getD}
+use lib.Seq.{ext-getD}
 use borrow.Author.Tests.{ltb-true, ltb-false}
 use Rattle.laws.specs.Choosing.{Pairwise, lexBy}
 use Rattle.laws.specs.Sets.{bit, inBoth}
@@ -21,16 +21,17 @@ use Rattle.problem.specs.declared.Fault.{Fault}
 use Rattle.problem.specs.declared.Fault.the-variants.{Sound}
 use Rattle.problem.specs.declared.Request.{Request}
 use Rattle.problem.specs.Table.{lastNode, mostArcs, riskWidth, mostShared, mostReach, mostAllowance, mostInTable, replySize, Bytes, recordAt, arcsOf, SoundArc, HasFault, faultOf, faultNumber, allSound}
-use Rattle.problem.specs.Routes.{arcAt, metresOf, exposureOf, IsWay, IsPath, IsRoute, FreeWay, Route, routeOf, ranking, precedes}
+use Rattle.problem.specs.Routes.{Mesh, arcAt, metresOf, exposureOf, nodesFrom, IsWay, IsPath, IsRoute, FreeWay, Route, routeOf, precedes}
 use Rattle.problem.specs.Spans.{mark, withSpan, spanless, markedArcs}
 use Rattle.problem.specs.Blanks.{Blank}
 use Rattle.problem.specs.Closed.{closedSize, closedIn, isOpen, AllOpen, noneClosed, shut, shutIn, plannedArcs}
 use Rattle.problem.specs.Exposures.{spansIn}
-use Rattle.problem.specs.Pairs.{Pair, pair, sharedRisks, sharedCount, sharedSpans, total, judged, NoWorse, Step, ofRank, rankedKey, floor, every, leastSettled, ranked}
-use Rattle.problem.specs.Reply.{meshOver, meshOf, planned, refusal, ClosedSet, plannedUnless, answerAround, answer, after, verdictIn, sharedIn, floorIn, sharedSpansIn, rankedIn, mainMetresIn, standbyMetresIn, totalIn, sharedRisksIn, mainIn, standbyIn}
+use Rattle.problem.specs.Pairs.{Pair, pair, sharedRisks, sharedCount, sharedSpans, total, judged, NoWorse, Step, ofRank, rankedKey, floor, every, someAt, settled, leastSettled, ranked}
+use Rattle.problem.specs.Apart.{Apart, listsApart, judges}
+use Rattle.problem.specs.Reply.{meshOver, meshOf, refusal, ClosedSet, plannedUnless, answerAmong, answerAround, answerApart, answer, after, verdictIn, sharedIn, floorIn, sharedSpansIn, rankedIn, mainMetresIn, standbyMetresIn, totalIn, sharedRisksIn, mainIn, standbyIn}
 use Rattle.problem.specs.Printed.{kilometres, text, printed, requestOf, Unreadable, output}
 use Rattle.problem.specs.Mending.{mostFieldBytes, Clean, wholeArcs, newNumber, mendedTable, Change, mendedList, changesIn, oldNumber, KeptAs, lost, Listed}
-use Rattle.problem.specs.Calls.{routesOf, RouteOf, WayOf, pairMadeOf, pairSaid, allowing, Applies, Told, LowestFault, LowestBlank, answerByRisks, answerOverAll, answerWithBlanks, ClosesAside}
+use Rattle.problem.specs.Calls.{routesOf, RouteOf, WayOf, pairMadeOf, pairSaid, ApartWithin, allowing, Applies, Told, LowestFault, LowestBlank, answerByRisks, answerOverAll, answerWithBlanks, ClosesAside}
 use Rattle.problem.proofs.FaultLaws as FaultLaws
 use Rattle.problem.proofs.ByteLaws as ByteLaws
 use Rattle.problem.proofs.ExposureLaws.{spans-few}
@@ -42,10 +43,13 @@ use Rattle.problem.proofs.AroundLaws as AroundLaws
 use Rattle.problem.proofs.PathLaws as PathLaws
 use Rattle.problem.proofs.RankingLaws.{ranking-exact, ranking-strict}
 use Rattle.problem.proofs.PairLaws as PairLaws
+use Rattle.problem.proofs.SettleLaws as SettleLaws
+use Rattle.problem.proofs.ApartLaws as ApartLaws
 use Rattle.problem.proofs.RefusalLaws.{unknown}
 use Rattle.problem.proofs.CallLaws as CallLaws
-use Rattle.problem.proofs.CallLaws.{WithPair, low-number, high-number, refused-told, answered-none, numbered, no-route-exactly, number-known}
+use Rattle.problem.proofs.CallLaws.{WithPair, low-number, refused-told, answered-none, numbered, no-route-exactly, number-known}
 use Rattle.problem.proofs.SaidLaws as Said
+use Rattle.problem.proofs.ApartCallLaws as ApartCallLaws
 use Rattle.problem.proofs.PrintedLaws as Printed
 use Rattle.problem.proofs.MendLaws as MendLaws
 use Rattle.problem.proofs.ChangeLaws as ChangeLaws
@@ -70,34 +74,30 @@ module _ (table closed : List ℕ) (q : Request) (size : ℕ) where
 
   -- each number is given exactly where its own test holds, none of an earlier turn, and in its own turn none of a smaller number
   pub checked-in-order : (n : ℕ) → 2 ≤ n → (number ≡ n) ↔ Told table closed q size n
-  checked-in-order = numbered table closed q size
+  checked-in-order n two = numbered false table closed q size n two (inl refl)
 
   -- a call is answered exactly where no test holds
   pub answered-exactly : (number < 2) ↔ ((t i : ℕ) → Applies table closed q size t i → ⊥)
-  answered-exactly = (λ h t i a. answered-none table closed q size h a, λ f. go f (ltb number 2) refl)
+  answered-exactly = (λ h t i a. answered-none false table closed q size h a, λ f. go f (ltb number 2) refl)
     where
       go : ((t i : ℕ) → Applies table closed q size t i → ⊥) → (b : Bool) → ltb number 2 ≡ b → number < 2
       go f true e = ltb-true number 2 e
-      go f false e = absurd (f _ number (refused-told table closed q size (ltb-false number 2 e) .applies))
+      go f false e = absurd (f _ number (refused-told false table closed q size (ltb-false number 2 e) (inl refl) .applies))
 
   -- "no route" exactly where, no earlier test holding, no route fits the reach
   pub ten-exactly : ((t i : ℕ) → t < 12 → Applies table closed q size t i → ⊥) → (number ≡ 10) ↔ ((ks : List ℕ) → RouteOf table closed q ks → ⊥)
-  ten-exactly below = no-route-exactly table closed q size below
+  ten-exactly below = no-route-exactly false table closed q size below
 
   -- a refusal leaves every byte of the buffer
   pub refusal-keeps-buffer : 2 ≤ number → (buffer : List ℕ) → after (answerAround table closed q size) buffer ≡ buffer
-  unfolding after
-  refusal-keeps-buffer h buffer = rw (high-number table closed q size h)
+  refusal-keeps-buffer = CallLaws.buffer-kept false table closed q size
 
   -- an answer writes 96 bytes and leaves those behind them
   pub answer-writes-96 : number < 2 → length reply ≡ replySize
-  answer-writes-96 h = Said.reply-size (low-number table closed q size h)
+  answer-writes-96 h = Said.reply-size (low-number false table closed q size h)
 
   pub answer-keeps-rest : number < 2 → (buffer : List ℕ) → drop replySize (after (answerAround table closed q size) buffer) ≡ drop replySize buffer
-  unfolding after
-  answer-keeps-rest h buffer =
-      let e = answer-writes-96 h in
-      ap (λ (n : ℕ). drop n (reply ++ drop (length reply) buffer)) (sym e) ∙ drop-append-seam reply (drop (length reply) buffer) ∙ ap (λ (n : ℕ). drop n buffer) e
+  answer-keeps-rest h = Said.rest-kept (low-number false table closed q size h)
 
   -- ==== Demand 2. "Of pairs whose main is among the first `allowance` routes of the ranking and whose standby is any route: fewest shared risks,
   -- ==== then least total, then first in the ranking; metres are added, kilometres rounded up once per route."
@@ -111,8 +111,8 @@ module _ (table closed : List ℕ) (q : Request) (size : ℕ) where
   judged-by-rank = PairLaws.judged-by-rank routes ranking-in-order
 
   module _ (answered : number < 2) where
-    w : WithPair table closed q size
-    w = low-number table closed q size answered
+    w : WithPair false table closed q size
+    w = low-number false table closed q size answered
 
     -- the ranking has every route and nothing else
     pub ranking-has : (ks : List ℕ) → List·Memᴰ (routeOf arcs ks) routes ↔ RouteOf table closed q ks
@@ -139,22 +139,24 @@ module _ (table closed : List ℕ) (q : Request) (size : ℕ) where
 
     -- the main is among the first `allowance` routes, the standby is any route
     pub main-allowed : List·Memᴰ (pairSaid arcs reply .main) (take (q .allowance) routes)
-    main-allowed = subst (λ (p : Pair). List·Memᴰ (p .main) (take (q .allowance) routes)) (sym (Said.said-is w)) (Said.main-allowed w)
+    main-allowed = Said.said-main w
 
     pub standby-any : List·Memᴰ (pairSaid arcs reply .standby) routes
-    standby-any = subst (λ (p : Pair). List·Memᴰ (p .standby) routes) (sym (Said.said-is w)) (Said.standby-listed w)
+    standby-any = Said.said-standby w
 
     -- no such pair comes before it
     pub none-before : (m s : Route) → List·Memᴰ m (take (q .allowance) routes) → List·Memᴰ s routes → judged (pair m s) (pairSaid arcs reply) ≡ false
-    none-before m s x y = rw (Said.said-is w) (Said.none-before w x y)
+    unfolding judges
+    none-before m s x y = Said.said-none-before w x y refl
 
     -- every other such pair comes after it
     pub others-after : (m s : Route) → List·Memᴰ m (take (q .allowance) routes) → List·Memᴰ s routes → (pair m s ≡ pairSaid arcs reply) ⊎ (judged (pairSaid arcs reply) (pair m s) ≡ true)
-    others-after m s x y = rw (Said.said-is w) (Said.others-after w x y)
+    unfolding judges
+    others-after m s x y = Said.said-others-after w x y refl
 
     -- the main's rank never exceeds the standby's
     pub main-not-behind : precedes (pairSaid arcs reply .standby) (pairSaid arcs reply .main) ≡ false
-    main-not-behind = subst (λ (p : Pair). precedes (p .standby) (p .main) ≡ false) (sym (Said.said-is w)) (Said.main-first w)
+    main-not-behind = Said.said-main-first w
 
     -- ==== Demand 3. "'Settled' exactly by 01's rule, and then: no two ways within reach, loops or the same way twice allowed, do better;
     -- ==== every larger permitted allowance gives the same reply; unsettled replies never get worse; an allowance of at least N settles."
@@ -167,25 +169,28 @@ module _ (table closed : List ℕ) (q : Request) (size : ℕ) where
     floor-said = Said.floor-in w
 
     pub ranked-said : rankedIn reply ≡ min (leastSettled every routes) (q .allowance)
-    unfolding ranked
+    unfolding ranked judges
     ranked-said = Said.ranked-in w
 
     -- settled exactly where every route was tried as main, or the pair shares only what lies on every route and twice the length of the last main tried is at least its total
     pub settled-exactly : (number ≡ 0)
         ↔ ((rankedIn reply ≡ length routes) ⊎ ((sharedCount (pairSaid arcs reply) ≡ floor routes) × (total (pairSaid arcs reply) ≤ 2 * ofRank routes (rankedIn reply) .metres)))
-    settled-exactly = rw (Said.said-is w, Said.ranked-in w) (Said.settled-tests w)
+    settled-exactly = Said.said-settled w
 
     -- exactly where J is within the allowance; else stopped
     pub settled-within : (number ≡ 0) ↔ (leastSettled every routes ≤ q .allowance)
+    unfolding judges
     settled-within = Said.settled-number w
 
     pub stopped-past : (number ≡ 1) ↔ (q .allowance < leastSettled every routes)
+    unfolding judges
     stopped-past = Said.stopped-number w
 
     -- settled: no two ways within reach, loops or the same way twice allowed, share fewer, or as many at a smaller total
     pub settled-no-better : number ≡ 0 → (u v : List ℕ) → WayOf table closed q u → WayOf table closed q v
         → NoWorse (sharedIn reply) (totalIn reply) (sharedCount (pairMadeOf arcs u v)) (total (pairMadeOf arcs u v))
-    settled-no-better e u v = Said.no-better-ways w e {u = u} {v = v}
+    unfolding judges
+    settled-no-better e u v x y = Said.no-better-ways w e {u = u} {v = v} x y refl
 
     -- an allowance of at least N settles
     pub all-routes-settle : length routes ≤ q .allowance → number ≡ 0
@@ -201,8 +206,7 @@ module _ (table closed : List ℕ) (q : Request) (size : ℕ) where
       pub never-worse : (answerAround table closed (allowing q b) size .number < 2)
           × NoWorse (sharedIn (answerAround table closed (allowing q b) size .reply)) (totalIn (answerAround table closed (allowing q b) size .reply)) (sharedIn reply) (totalIn reply)
           × (judged (pairSaid arcs reply) (pairSaid arcs (answerAround table closed (allowing q b) size .reply)) ≡ false)
-      never-worse =
-          (Said.larger-answered w b more permitted, Said.no-worse-pair w b more permitted, rw (Said.said-is w, Said.said-is (Said.pair-allowing b w more permitted)) (Said.no-later w b more permitted))
+      never-worse = Said.never-worse w b more permitted
 
 -- ==== Request T-10. "Show that with at most 31 arcs of at most 2,000,000 metres, no route passes 62,000,000, and take the number and its check out.
 -- ==== It isn't given to anything else."
@@ -218,7 +222,7 @@ no-path-longer arcs sound v to ks = PathLaws.path-range arcs sound
 -- so no route of a reply is longer
 pub reply-within : (table closed : List ℕ) (q : Request) (size : ℕ) → number table closed q size < 2
     → (mainMetresIn (reply table closed q size) ≤ mostReach) × (standbyMetresIn (reply table closed q size) ≤ mostReach)
-reply-within table closed q size h = Said.said-within (low-number table closed q size h)
+reply-within table closed q size h = Said.said-within (low-number false table closed q size h)
 
 -- and a reach of 62,000,000 metres sets no limit: the routes are all such lists from source to terminal; with a closed set see `largest-reach-around`
 pub largest-reach : (table : List ℕ) (q : Request) → allSound (arcsOf table) ≡ true → q .reach ≡ mostReach
@@ -227,7 +231,7 @@ largest-reach table q sound e ks = rw (ClosedLaws.planned-unclosed table) (PathL
 
 -- number 11 has ended: no call returns it
 pub never-eleven : (table closed : List ℕ) (q : Request) (size : ℕ) → number table closed q size ≡ 11 → ⊥
-never-eleven table closed q size e = unknown (inr (omega arith)) (number-known table closed q size)
+never-eleven table closed q size e = unknown (inr (omega arith)) (number-known false table closed q size (inl refl))
 
 -- ==== Request T-02. "Split it: 20 node, 21 equal ends, 22 length, 23 spare bytes, returned as that number plus 256 times the arc number. The lowest faulty arc
 -- ==== is named; within it, 20 to 23 in order; 9 is no longer given; the place in the order stays."
@@ -235,12 +239,12 @@ never-eleven table closed q size e = unknown (inr (omega arith)) (number-known t
 -- once the checks before have passed, the number is n + 256 i exactly where arc i has the fault of number n as its first and every arc below i is sound
 pub arc-named : (table closed : List ℕ) (q : Request) (size : ℕ) → ((t i : ℕ) → t < 9 → Applies table closed q size t i → ⊥)
     → (n i : ℕ) → 20 ≤ n → n ≤ 22 → (number table closed q size ≡ n + 256 * i) ↔ LowestFault (arcsOf table) i n
-arc-named = CallLaws.arc-named
+arc-named = CallLaws.arc-named false
 
 -- so whatever number past 10 is given, but for 16, can be taken apart: divided by 256 it says the arc, and what remains says its first fault, or that it is blank (T-09)
 pub arc-apart : (table closed : List ℕ) (q : Request) (size : ℕ) → let n = number table closed q size in 10 < n → (n ≡ 16 → ⊥)
     → LowestFault (arcsOf table) (n / 256) (n % 256) ⊎ ((n % 256 ≡ 24) × LowestBlank (arcsOf table) (n / 256))
-arc-apart = CallLaws.arc-apart
+arc-apart table closed q size past other = CallLaws.arc-apart false table closed q size past other (inl refl)
 
 -- an arc's first fault is, of those that it has, that of the smallest number
 pub first-fault : (a : Arc) (f : Fault) → (f ≡ Sound → ⊥) → (faultOf a ≡ f) ↔ (HasFault a f × ((g : Fault) → faultNumber g < faultNumber f → HasFault a g → ⊥))
@@ -252,7 +256,7 @@ sound-exactly a = (λ s f h. FaultLaws.sound-none s h, FaultLaws.none-sound a)
 
 -- number 9 has ended: no call returns it
 pub never-nine : (table closed : List ℕ) (q : Request) (size : ℕ) → number table closed q size ≡ 9 → ⊥
-never-nine table closed q size e = unknown (inl e) (number-known table closed q size)
+never-nine table closed q size e = unknown (inl e) (number-known false table closed q size (inl refl))
 
 -- ==== Request T-01. "A mender: up to 4,096 bytes in, a clean table out, and, by rising old number, one 16-byte record for each arc changed or lost. A clean table passes unchanged
 -- ==== with an empty list, and mending twice gives the same table as once. Arc numbers shift, so the list must let a reader get every old number back."
@@ -266,7 +270,7 @@ module _ (input : List ℕ) where
   mended-planned q size =
       let for-blanks = MendCallLaws.clean-planned mended-clean noneClosed q size in
       let not-sixteen = AroundLaws.never-sixteen (mendedTable input) q size in
-      (for-blanks .0, for-blanks .1, elim (for-blanks .2) [ inl low ↦ inl (MendCallLaws.to-ten (number-known (mendedTable input) noneClosed q size) low not-sixteen) | inr blank ↦ inr blank ])
+      (for-blanks .0, for-blanks .1, elim (for-blanks .2) [ inl low ↦ inl (MendCallLaws.to-ten (number-known false (mendedTable input) noneClosed q size (inl refl)) low not-sixteen) | inr blank ↦ inr blank ])
 
   -- nor does it with a closed set, other than for that set
   pub mended-planned-around : (closed : List ℕ) (q : Request) (size : ℕ) → let n = answerAround (mendedTable input) closed q size .number in (n ≡ 2 → ⊥) × (n ≡ 3 → ⊥) × ((n ≤ 16) ⊎ (n % 256 ≡ 24))
@@ -334,16 +338,13 @@ pub spans-most : (arcs : List Arc) (ks : List ℕ) → spansIn (exposureOf arcs 
 spans-most = SpanLaws.spans-most
 
 pub reply-most : (table closed : List ℕ) (q : Request) (size : ℕ) → number table closed q size < 2 → (sharedIn (reply table closed q size) ≤ mostShared) × (sharedSpansIn (reply table closed q size) ≤ mostArcs)
-reply-most table closed q size h = Said.said-most (low-number table closed q size h)
+reply-most table closed q size h = Said.said-most (low-number false table closed q size h)
 
 -- a table with zero there answers as it does with spans left out of the definition; and then two ways share what risks they share, and no more
 pub as-before : (table closed : List ℕ) (q : Request) (size : ℕ) → ((k : ℕ) → k < length (arcsOf table) → arcAt (arcsOf table) k .span ≡ 0) → answerAround table closed q size ≡ answerByRisks table closed q size
-unfolding answerAround plannedUnless
-as-before table closed q size none = go (refusal table closed q size)
-  where
-    go : (n : ℕ) → plannedUnless n (plannedArcs table closed) q ≡ plannedUnless n (shutIn (closedIn closed) (spanless (arcsOf table))) q
-    go zero = ap (λ (arcs : List Arc). planned (ranking (meshOver (shutIn (closedIn closed) arcs) q)) (q .allowance)) (SpanLaws.spanless-same (arcsOf table) none)
-    go (suc n) = refl
+unfolding answerAmong
+as-before table closed q size none =
+    ap (λ (arcs : List Arc). plannedUnless false (refusal table closed q size) (shutIn (closedIn closed) arcs) q) (SpanLaws.spanless-same (arcsOf table) none)
 
 pub by-risks-alone : (arcs : List Arc) (u v : List ℕ) → let p = pairMadeOf (spanless arcs) u v in sharedCount p ≡ length (inBoth riskWidth (p .main .exposure .risks) (p .standby .exposure .risks))
 unfolding routeOf sharedSpans
@@ -353,7 +354,7 @@ by-risks-alone arcs u v =
 
 -- number 23 has ended: no call returns it, of whichever arc
 pub never-twenty-three : (table closed : List ℕ) (q : Request) (size i : ℕ) → number table closed q size ≡ 23 + 256 * i → ⊥
-never-twenty-three = CallLaws.never-spare
+never-twenty-three = CallLaws.never-spare false
 
 -- ==== Request T-06. "A call may bring a closed set: 16 bytes, one bit per arc number, lowest bit first. A closed arc lies on no route and gives no distance, so the shortest lengths now hold over
 -- ==== open arcs free of the given risks. Numbers stay. Closed arcs are still checked for faults. An all-zero set answers as before, and demands 2 and 3 speak of open arcs.
@@ -390,7 +391,7 @@ pub open-no-better : (table closed : List ℕ) (q : Request) (size : ℕ) → nu
     → (u v : List ℕ) → IsWay (meshOver (markedArcs table) q) u → AllOpen (closedIn closed) u → IsWay (meshOver (markedArcs table) q) v → AllOpen (closedIn closed) v
     → let p = pairMadeOf (markedArcs table) u v in NoWorse (sharedIn (reply table closed q size)) (totalIn (reply table closed q size)) (sharedCount p) (total p)
 open-no-better table closed q size e u v x open-u y open-v =
-    let c = low-number table closed q size (omega arith) .passed .checked in
+    let c = low-number false table closed q size (omega arith) .passed .checked in
     let ways = ways-open table closed q (c .sound) (c .source-node) in
     rw (← ClosedLaws.shut-route (closedIn closed) (markedArcs table) u, ← ClosedLaws.shut-route (closedIn closed) (markedArcs table) v)
     (settled-no-better table closed q size (omega arith) e u v (ways u .1 (x, open-u)) (ways v .1 (y, open-v)))
@@ -403,15 +404,12 @@ distances-open = AroundLaws.free-open
 -- no arc of a reply is closed
 pub reply-open : (table closed : List ℕ) (q : Request) (size : ℕ) → number table closed q size < 2
     → AllOpen (closedIn closed) (mainIn (reply table closed q size)) × AllOpen (closedIn closed) (standbyIn (reply table closed q size))
-reply-open table closed q size h =
-    let c = low-number table closed q size h .passed .checked in
-    let r = reply-routes table closed q size h in
-    (routes-open table closed q (c .sound) (c .source-node) _ .0 (r .0) .1, routes-open table closed q (c .sound) (c .source-node) _ .0 (r .1) .1)
+reply-open table closed q size h = Said.said-open (low-number false table closed q size h)
 
 -- 16 exactly where, no check before having told a number, the set is not 16 bytes or has a bit at or past the number of arcs
 pub sixteen-exactly : (table closed : List ℕ) (q : Request) (size : ℕ) → ((t i : ℕ) → t < 11 → Applies table closed q size t i → ⊥)
     → (number table closed q size ≡ 16) ↔ ((length closed ≡ closedSize → ⊥) ⊎ ((k : ℕ) × (length (arcsOf table) ≤ k) × (isOpen (closedIn closed) k ≡ false)))
-sixteen-exactly = CallLaws.set-exactly
+sixteen-exactly = CallLaws.set-exactly false
 
 -- an all-zero set answers as the entry that takes none
 pub none-closed : (table closed : List ℕ) (q : Request) (size : ℕ) → length closed ≡ closedSize → ((k : ℕ) → k < closedSize → getD closed k 0 ≡ 0) → answerAround table closed q size ≡ answer table q size
@@ -428,7 +426,7 @@ never-sixteen = AroundLaws.never-sixteen
 -- closing arcs that lie on no route changes nothing: the same number and the same bytes
 pub closing-aside : (table closed more : List ℕ) (q : Request) (size : ℕ) → ClosedSet table closed → ClosedSet table more → ClosesAside table closed more q
     → answerAround table more q size ≡ answerAround table closed q size
-closing-aside table closed more q size s t c = AroundLaws.aside-same s t c size
+closing-aside table closed more q size s t c = AroundLaws.aside-same false s t c size
 
 -- ==== Request T-09. "Refuse an arc of more than 0 metres with an empty risk field. D2 now refuses; arcs of 0 metres keep their blank. The mender and importer leave such arcs for a person.
 -- ==== Refusals: 24 plus 256 times the lowest such arc, looked for when no arc has a fault of T-02, before 16."
@@ -436,23 +434,226 @@ closing-aside table closed more q size s t c = AroundLaws.aside-same s t c size
 module _ (table closed : List ℕ) (q : Request) (size : ℕ) where
   -- once the checks before have passed, those of the arcs among them, the number is 24 + 256 i exactly where arc i, closed or not, is blank and no arc below it is
   pub blank-named : ((t i : ℕ) → t < 10 → Applies table closed q size t i → ⊥) → (i : ℕ) → (number table closed q size ≡ 24 + 256 * i) ↔ LowestBlank (arcsOf table) i
-  blank-named = CallLaws.blank-named table closed q size
+  blank-named = CallLaws.blank-named false table closed q size
 
   -- so nothing is answered while a risk field is blank
   pub answered-listed : number table closed q size < 2 → (k : ℕ) → k < length (arcsOf table) → Blank (arcAt (arcsOf table) k) → ⊥
-  answered-listed h = BlankLaws.listed-at (arcsOf table) (low-number table closed q size h .passed .risks-listed)
+  answered-listed h = BlankLaws.listed-at (arcsOf table) (low-number false table closed q size h .passed .risks-listed)
 
   -- any call that is not refused for a blank is answered as before; so a table without a blank arc is
   pub otherwise-before : ((i : ℕ) → number table closed q size ≡ 24 + 256 * i → ⊥) → answerAround table closed q size ≡ answerWithBlanks table closed q size
-  otherwise-before = CallLaws.otherwise-before table closed q size
+  otherwise-before = CallLaws.otherwise-before false table closed q size
 
   pub listed-before : ((k : ℕ) → k < length (arcsOf table) → Blank (arcAt (arcsOf table) k) → ⊥) → answerAround table closed q size ≡ answerWithBlanks table closed q size
-  listed-before none = otherwise-before (λ i e. let l = CallLaws.blank-told table closed q size i e in none i (l .inside) (l .blank))
+  listed-before none = otherwise-before (λ i e. let l = CallLaws.blank-told false table closed q size i e in none i (l .inside) (l .blank))
 
 -- the mender leaves such an arc for a person: one that has no fault is kept as it is where there is room for it, whatever its risks, and the list says nothing of it
 pub blank-left : (input : List ℕ) (k : ℕ) → k < wholeArcs input → SoundArc (arcAt (arcsOf input) k) → newNumber input k < mostInTable
     → (arcAt (arcsOf (mendedTable input)) (newNumber input k) ≡ arcAt (arcsOf input) k) × ((reason : ℕ) → Listed input (lost k reason) → ⊥)
 blank-left input k whole sound room = (MendCallLaws.sound-left input k whole sound room, MendCallLaws.sound-unlisted input k whole sound room)
+
+-- ==== Request T-05. "Hospital and bank buyers want a profile where main and standby have only the two end nodes in common and no arc in common, so a single arc used twice is out too.
+-- ==== Everything else in 01 is judged among such pairs; the floor stays that of all routes. A step with no such pair yet is settled only at N. Demand 3 reads the same over ways with that
+-- ==== property, except that 15 may turn into a pair or into 14 as the allowance grows, and that an allowance of N or more settles or gives 14. Refusals, after 10: 14 exactly when no such
+-- ==== pair exists among all routes and the allowance reaches N; 15 exactly when none has its main within the allowance and the allowance is below N."
+-- `answerApart` gives the number and the bytes of such a call.
+
+-- two lists of arcs, routes or ways with loops, are apart where no arc stands in both, and no node that both meet is other than source and terminal
+pub apart-exactly : (m : Mesh) (ks ls : List ℕ) → (listsApart m ks ls ≡ true) ↔ Apart m ks ls
+apart-exactly = ApartLaws.apart-exactly
+
+-- a pair is judged exactly where its two routes are
+pub apart-judged : (m : Mesh) (p : Pair) → (judges m true p ≡ true) ↔ Apart m (p .main .arcs) (p .standby .arcs)
+apart-judged = ApartLaws.judges-apart
+
+-- a single arc used twice is out; and two routes with only the end nodes in common have no other arc in common
+pub single-arc-out : (m : Mesh) (k : ℕ) → Apart m (k ∷ []) (k ∷ []) → ⊥
+single-arc-out m k a = a .no-arc k (List·Memᴰ·head refl) (List·Memᴰ·head refl)
+
+pub only-single-arc : (m : Mesh) (ks ls : List ℕ) → IsRoute m ks → IsRoute m ls
+    → ((v : ℕ) → List·Memᴰ v (nodesFrom (m .arcs) (m .source) ks) → List·Memᴰ v (nodesFrom (m .arcs) (m .source) ls) → (v ≡ m .source) ⊎ (v ≡ m .terminal))
+    → (k : ℕ) → List·Memᴰ k ks → List·Memᴰ k ls → (ks ≡ k ∷ []) × (ls ≡ k ∷ [])
+only-single-arc m ks ls r s ends k = ApartLaws.one-arc m (r .path) (s .path) ends
+
+-- a step with no such pair yet is settled only at N
+pub settled-without : (m : Mesh) (routes : List Route) (j : ℕ) → someAt (judges m true) routes j ≡ false → (settled (judges m true) routes j ≡ true) ↔ (j ≡ length routes)
+settled-without m = SettleLaws.settled-without (judges m true)
+
+module _ (table closed : List ℕ) (q : Request) (size : ℕ) where
+  abbrev apartNumber : ℕ
+  apartNumber = answerApart table closed q size .number
+
+  abbrev apartReply : List ℕ
+  apartReply = answerApart table closed q size .reply
+
+  -- J, of the pairs that are apart
+  abbrev apartJ : ℕ
+  apartJ = leastSettled (judges (meshOf table closed q) true) (routesOf table closed q)
+
+  -- ---- numbers and bytes
+
+  -- every other number is given as by the plain entry, exactly where it is told
+  pub apart-in-order : (n : ℕ) → 2 ≤ n → (n ≡ 14 → ⊥) → (n ≡ 15 → ⊥) → (apartNumber ≡ n) ↔ Told table closed q size n
+  apart-in-order n two a b = numbered true table closed q size n two (inr (a, b))
+
+  -- 14 exactly where no test before holds, no two routes are apart, and every route could be a main
+  pub fourteen-exactly : (apartNumber ≡ 14)
+      ↔ (((t i : ℕ) → Applies table closed q size t i → ⊥)
+      × ((u v : List ℕ) → RouteOf table closed q u → RouteOf table closed q v → Apart (meshOf table closed q) u v → ⊥)
+      × (length (routesOf table closed q) ≤ q .allowance))
+  fourteen-exactly = ApartCallLaws.fourteen-exactly table closed q size
+
+  -- 15 exactly where no test before holds, no pair that is apart has its main within the allowance, and the allowance is below N
+  pub fifteen-exactly : (apartNumber ≡ 15)
+      ↔ (((t i : ℕ) → Applies table closed q size t i → ⊥) × ((m s : Route) → ApartWithin table closed q m s → ⊥) × (q .allowance < length (routesOf table closed q)))
+  fifteen-exactly = ApartCallLaws.fifteen-exactly table closed q size
+
+  -- answered exactly where no test holds and there is such a pair
+  pub apart-answered : (apartNumber < 2) ↔ (((t i : ℕ) → Applies table closed q size t i → ⊥) × ((m : Route) × (s : Route) × ApartWithin table closed q m s))
+  apart-answered = ApartCallLaws.answered-exactly table closed q size
+
+  -- the plain entry gives neither number
+  pub never-fourteen : number table closed q size ≡ 14 → ⊥
+  never-fourteen e = unknown (inr (omega arith)) (number-known false table closed q size (inl refl))
+
+  pub never-fifteen : number table closed q size ≡ 15 → ⊥
+  never-fifteen e = unknown (inr (omega arith)) (number-known false table closed q size (inl refl))
+
+  -- a refusal, by 14 or 15 too, leaves every byte of the buffer; an answer writes 96 bytes and leaves those behind them
+  pub apart-keeps-buffer : 2 ≤ apartNumber → (buffer : List ℕ) → after (answerApart table closed q size) buffer ≡ buffer
+  apart-keeps-buffer = CallLaws.buffer-kept true table closed q size
+
+  pub apart-writes-96 : apartNumber < 2 → length apartReply ≡ replySize
+  apart-writes-96 h = Said.reply-size (low-number true table closed q size h)
+
+  pub apart-keeps-rest : apartNumber < 2 → (buffer : List ℕ) → drop replySize (after (answerApart table closed q size) buffer) ≡ drop replySize buffer
+  apart-keeps-rest h = Said.rest-kept (low-number true table closed q size h)
+
+  module _ (answered : apartNumber < 2) where
+    ended : WithPair true table closed q size
+    ended = low-number true table closed q size answered
+
+    -- ---- demand 2
+
+    -- the arc numbers in the bytes are routes, of the metres, shared count, spans and risks that the bytes say
+    pub apart-routes : RouteOf table closed q (mainIn apartReply) × RouteOf table closed q (standbyIn apartReply)
+    apart-routes = Said.said-routes ended
+
+    pub apart-metres : (mainMetresIn apartReply ≡ metresOf (plannedArcs table closed) (mainIn apartReply)) × (standbyMetresIn apartReply ≡ metresOf (plannedArcs table closed) (standbyIn apartReply))
+    apart-metres = Said.said-metres ended
+
+    pub apart-shared : sharedIn apartReply ≡ sharedCount (pairSaid (plannedArcs table closed) apartReply)
+    apart-shared = Said.said-shared ended
+
+    pub apart-spans : sharedSpansIn apartReply ≡ sharedSpans (pairSaid (plannedArcs table closed) apartReply)
+    apart-spans = Said.said-spans ended
+
+    pub apart-risks : Bytes table → sharedRisksIn apartReply ≡ sharedRisks (pairSaid (plannedArcs table closed) apartReply)
+    apart-risks = Said.said-risks ended
+
+    -- at most 62,000,000 metres long, and with at most 95 shared, of which 31 are spans
+    pub apart-within : (mainMetresIn apartReply ≤ mostReach) × (standbyMetresIn apartReply ≤ mostReach)
+    apart-within = Said.said-within ended
+
+    pub apart-most : (sharedIn apartReply ≤ mostShared) × (sharedSpansIn apartReply ≤ mostArcs)
+    apart-most = Said.said-most ended
+
+    -- the two are apart
+    pub reply-apart : Apart (meshOf table closed q) (mainIn apartReply) (standbyIn apartReply)
+    unfolding routeOf
+    reply-apart = ApartLaws.judges-apart (meshOf table closed q) (pairSaid (plannedArcs table closed) apartReply) .0 (Said.said-passes ended)
+
+    -- the main is among the first `allowance` routes, the standby is any route
+    pub apart-main : List·Memᴰ (pairSaid (plannedArcs table closed) apartReply .main) (take (q .allowance) (routesOf table closed q))
+    apart-main = Said.said-main ended
+
+    pub apart-standby : List·Memᴰ (pairSaid (plannedArcs table closed) apartReply .standby) (routesOf table closed q)
+    apart-standby = Said.said-standby ended
+
+    -- no such pair that is apart comes before it, and every other one comes after it
+    pub apart-none-before : (m s : Route) → ApartWithin table closed q m s → judged (pair m s) (pairSaid (plannedArcs table closed) apartReply) ≡ false
+    apart-none-before m s x = Said.said-none-before ended (x .main-allowed) (x .standby-listed) (ApartCallLaws.within-passes x)
+
+    pub apart-others-after : (m s : Route) → ApartWithin table closed q m s
+        → (pair m s ≡ pairSaid (plannedArcs table closed) apartReply) ⊎ (judged (pairSaid (plannedArcs table closed) apartReply) (pair m s) ≡ true)
+    apart-others-after m s x = Said.said-others-after ended (x .main-allowed) (x .standby-listed) (ApartCallLaws.within-passes x)
+
+    -- the main's rank never exceeds the standby's
+    pub apart-main-not-behind : precedes (pairSaid (plannedArcs table closed) apartReply .standby) (pairSaid (plannedArcs table closed) apartReply .main) ≡ false
+    apart-main-not-behind = Said.said-main-first ended
+
+    -- ---- demand 3
+
+    -- the verdict is the number returned, the floor is that of all routes, and ranked is the smaller of J and the allowance
+    pub apart-verdict : verdictIn apartReply ≡ apartNumber
+    apart-verdict = Said.verdict-in ended
+
+    pub apart-floor : floorIn apartReply ≡ floor (routesOf table closed q)
+    apart-floor = Said.floor-in ended
+
+    pub apart-ranked : rankedIn apartReply ≡ min apartJ (q .allowance)
+    unfolding ranked
+    apart-ranked = Said.ranked-in ended
+
+    -- settled exactly by 01's rule
+    pub apart-settled : (apartNumber ≡ 0)
+        ↔ ((rankedIn apartReply ≡ length (routesOf table closed q))
+        ⊎ ((sharedCount (pairSaid (plannedArcs table closed) apartReply) ≡ floor (routesOf table closed q))
+        × (total (pairSaid (plannedArcs table closed) apartReply) ≤ 2 * ofRank (routesOf table closed q) (rankedIn apartReply) .metres)))
+    apart-settled = Said.said-settled ended
+
+    -- exactly where J is within the allowance; else stopped
+    pub apart-settled-within : (apartNumber ≡ 0) ↔ (apartJ ≤ q .allowance)
+    apart-settled-within = Said.settled-number ended
+
+    pub apart-stopped-past : (apartNumber ≡ 1) ↔ (q .allowance < apartJ)
+    apart-stopped-past = Said.stopped-number ended
+
+    -- settled: no two ways within reach that are apart, loops allowed, share fewer, or as many at a smaller total
+    pub apart-no-better : apartNumber ≡ 0 → (u v : List ℕ) → WayOf table closed q u → WayOf table closed q v → Apart (meshOf table closed q) u v
+        → NoWorse (sharedIn apartReply) (totalIn apartReply) (sharedCount (pairMadeOf (plannedArcs table closed) u v)) (total (pairMadeOf (plannedArcs table closed) u v))
+    unfolding routeOf
+    apart-no-better e u v x y apart = Said.no-better-ways ended e {u = u} {v = v} x y (ApartLaws.judges-apart (meshOf table closed q) (pairMadeOf (plannedArcs table closed) u v) .1 apart)
+
+    -- and for every larger permitted allowance:
+    module _ (b : ℕ) (more : q .allowance ≤ b) (permitted : b ≤ mostAllowance) where
+      -- settled: the same number and the same 96 bytes
+      pub apart-stays : apartNumber ≡ 0 → answerApart table closed (allowing q b) size ≡ answerApart table closed q size
+      apart-stays = Said.same-answer ended b more permitted
+
+      -- settled or stopped: answered, no worse, and by the whole judgement no later
+      pub apart-never-worse : let later = answerApart table closed (allowing q b) size in (later .number < 2)
+          × NoWorse (sharedIn (later .reply)) (totalIn (later .reply)) (sharedIn apartReply) (totalIn apartReply)
+          × (judged (pairSaid (plannedArcs table closed) apartReply) (pairSaid (plannedArcs table closed) (later .reply)) ≡ false)
+      apart-never-worse = Said.never-worse ended b more permitted
+
+  -- an allowance of N or more settles or gives 14
+  pub apart-all-settle : ((t i : ℕ) → Applies table closed q size t i → ⊥) → length (routesOf table closed q) ≤ q .allowance → (apartNumber ≡ 0) ⊎ (apartNumber ≡ 14)
+  apart-all-settle = ApartCallLaws.all-settle table closed q size
+
+  -- with a larger permitted allowance 15 turns into a pair or into 14, or stays; 14 stays
+  pub fifteen-turns : (b : ℕ) → q .allowance ≤ b → b ≤ mostAllowance → apartNumber ≡ 15 → let n = answerApart table closed (allowing q b) size .number in (n < 2) ⊎ ((n ≡ 14) ⊎ (n ≡ 15))
+  fifteen-turns = ApartCallLaws.fifteen-turns table closed q size
+
+  pub fourteen-stays : (b : ℕ) → q .allowance ≤ b → b ≤ mostAllowance → apartNumber ≡ 14 → answerApart table closed (allowing q b) size .number ≡ 14
+  fourteen-stays = ApartCallLaws.fourteen-stays table closed q size
+
+  -- ---- beside closed sets, and the plain entry
+
+  -- a closed set does not change what is apart, no arc of a reply is closed, and closing arcs that lie on no route changes nothing
+  pub apart-around : (u v : List ℕ) → Apart (meshOf table closed q) u v ↔ Apart (meshOver (markedArcs table) q) u v
+  apart-around = AroundLaws.apart-around table closed q
+
+  pub apart-open : apartNumber < 2 → AllOpen (closedIn closed) (mainIn apartReply) × AllOpen (closedIn closed) (standbyIn apartReply)
+  apart-open h = Said.said-open (low-number true table closed q size h)
+
+  pub apart-closing-aside : (more : List ℕ) → ClosedSet table closed → ClosedSet table more → ClosesAside table closed more q → answerApart table more q size ≡ answerApart table closed q size
+  apart-closing-aside more s t c = AroundLaws.aside-same true s t c size
+
+  -- where the plain answer has a pair that is apart, it is the answer here too, number and bytes
+  pub apart-as-plain : number table closed q size < 2 → Apart (meshOf table closed q) (mainIn (reply table closed q size)) (standbyIn (reply table closed q size))
+      → answerApart table closed q size ≡ answerAround table closed q size
+  apart-as-plain = ApartCallLaws.as-plain table closed q size
 
 -- ==== Of any pair, and of any length
 

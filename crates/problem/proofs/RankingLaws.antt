@@ -66,6 +66,16 @@ module _ (m : Mesh) where
       short : (l : List ℕ) → routeOf (m .arcs) l ≡ r → within (m .reach) r ≡ true → metresOf (m .arcs) l ≤ m .reach
       short l e w = omega (arith, leb-true (r .metres) (m .reach) w, ap (λ (s : Route). s .metres) e)
 
+  -- it is made of its own arc numbers
+  pub ranking-own : {r : Route} → List·Memᴰ r (ranking m) → IsRoute m (r .arcs) × (routeOf (m .arcs) (r .arcs) ≡ r)
+  unfolding routeOf
+  ranking-own {r} x = go (ranking-out x)
+    where
+      go : Listed r → IsRoute m (r .arcs) × (routeOf (m .arcs) (r .arcs) ≡ r)
+      go o =
+          let e : o .list ≡ r .arcs = ap (λ (s : Route). s .arcs) (sym (o .is)) in
+          (subst (IsRoute m) e (o .route), ap (routeOf (m .arcs)) (sym e) ∙ sym (o .is))
+
   pub ranking-in : LowHeads (m .arcs) → m .source ≤ lastNode → {ks : List ℕ} → IsRoute m ks → List·Memᴰ (routeOf (m .arcs) ks) (ranking m)
   unfolding routesFrom within routeOf
   ranking-in low s {ks} r =

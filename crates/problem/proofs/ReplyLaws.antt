@@ -1,13 +1,13 @@
--- Calls: the checks as facts, the three ways a call can end, and the fields of a reply read back from its bytes. Assumes nothing.
+-- Calls: the checks as facts, the five ways a call can end, and the fields of a reply read back from its bytes. Assumes nothing.
 use mathlib.Core.Path.{_≡_, refl, sym, ap, _∙_}
 use mathlib.Core.Bool.{Bool, true, false, true≢false, _||_, not}
 use mathlib.Core.List.{List, [], _∷_}
 use Prim.Native.Nat.{ℕ, zero, suc, _-_, _/_, _%_, _^_, _≤_, _<_}
 use native.Mathlib.Omega.{arith}
-use lib.Dec.{eqb, ltb}
+use lib.Dec.{eqb, leb, ltb}
 use lib.ListN.{length, take, replicate, length-append, length-replicate}
 use lib.Seq.{take-append-seam, take-append-le, drop-at}
-use borrow.Author.Tests.{ltb-true, ltb-false, lt-ltb, le-ltb, eqb-true, eqb-false, eq-eqb, ne-eqb, not-false}
+use borrow.Author.Tests.{leb-true, leb-false, ltb-true, ltb-false, lt-ltb, le-ltb, eqb-true, eqb-false, eq-eqb, ne-eqb, not-false}
 use Rattle.laws.specs.Choosing.{if_then_else_}
 use Rattle.laws.proofs.BoolLaws.{neither}
 use Rattle.problem.specs.declared.Request.{Request}
@@ -15,8 +15,9 @@ use Rattle.problem.specs.Table.{lastNode, mostArcs, mostReach, mostAllow
 use Rattle.problem.specs.Blanks.{blanksNumber, noneBlank}
 use Rattle.problem.specs.Closed.{closedSize, closedIn, plannedArcs}
 use Rattle.problem.specs.Routes.{Route}
-use Rattle.problem.specs.Pairs.{Step, Pair, sharedRisks, sharedCount, sharedSpans, floor, every, best, ranked, verdict}
-use Rattle.problem.specs.Reply.{Answer, refuse, placesOf, replyOf, verdictIn, sharedIn, floorIn, sharedSpansIn, rankedIn, mainMetresIn, standbyMetresIn, sharedRisksIn, mainIn, standbyIn, firstNumber, sizeChecks, requestChecks, arcChecks, blankChecks, closedChecks, refusal, ClosedSet, Passed, planned, plannedUnless, answerAround}
+use Rattle.problem.specs.Pairs.{Step, Pair, sharedRisks, sharedCount, sharedSpans, floor, someAt, best, ranked, verdict}
+use Rattle.problem.specs.Apart.{judges}
+use Rattle.problem.specs.Reply.{meshOf, Answer, refuse, placesOf, replyOf, verdictIn, sharedIn, floorIn, sharedSpansIn, rankedIn, mainMetresIn, standbyMetresIn, sharedRisksIn, mainIn, standbyIn, firstNumber, sizeChecks, requestChecks, arcChecks, blankChecks, closedChecks, refusal, ClosedSet, Passed, planned, plannedUnless, answerAmong}
 use Rattle.problem.specs.Calls.{routesOf, Told}
 use Rattle.problem.proofs.ByteLaws.{field-at}
 use Rattle.problem.proofs.TableLaws.{number-sound}
@@ -95,53 +96,78 @@ passed-refusal {table} {closed} {q} {size} p =
 
 -- ---- how a call ends
 
+-- the pairs that a call judges: every one, or where `only` is true those that are apart (T-05)
+abbrev pub judgesOf : (only : Bool) (table closed : List ℕ) → Request → Pair → Bool
+judgesOf only table closed q = judges (meshOf table closed q) only
+
 -- the pair of the answer: best(ranked)
-abbrev pub chosen : (table closed : List ℕ) → Request → Pair
-chosen table closed q = best every (routesOf table closed q) (ranked every (routesOf table closed q) (q .allowance))
+abbrev pub chosen : (only : Bool) (table closed : List ℕ) → Request → Pair
+chosen only table closed q = best (judgesOf only table closed q) (routesOf table closed q) (ranked (judgesOf only table closed q) (routesOf table closed q) (q .allowance))
 
--- the answer where there is a route
-abbrev pub answered : (table closed : List ℕ) → Request → Answer
-answered table closed q =
-    record {
-      number = verdict every (routesOf table closed q) (q .allowance);
-      reply = replyOf (verdict every (routesOf table closed q) (q .allowance)) (floor (routesOf table closed q)) (ranked every (routesOf table closed q) (q .allowance)) (chosen table closed q);
-    }
+-- the answer with a pair, of a ranking and of a call
+abbrev pub paired : (Pair → Bool) → List Route → ℕ → Answer
+paired ok routes allowance =
+    record { number = verdict ok routes allowance; reply = replyOf (verdict ok routes allowance) (floor routes) (ranked ok routes allowance) (best ok routes (ranked ok routes allowance)) }
 
-pub data Outcome (table closed : List ℕ) (q : Request) (size : ℕ) : Type 0 where
+abbrev pub answered : (only : Bool) (table closed : List ℕ) → Request → Answer
+answered only table closed q = paired (judgesOf only table closed q) (routesOf table closed q) (q .allowance)
+
+pub data Outcome (only : Bool) (table closed : List ℕ) (q : Request) (size : ℕ) : Type 0 where
   -- by one of the checks before 10
-  by-check : (n : ℕ) → refusal table closed q size ≡ n → Told table closed q size n → answerAround table closed q size ≡ refuse n → Outcome table closed q size
+  by-check : (n : ℕ) → refusal table closed q size ≡ n → Told table closed q size n → answerAmong only table closed q size ≡ refuse n → Outcome only table closed q size
   -- with 10
-  no-route : Passed table closed q size → routesOf table closed q ≡ [] → answerAround table closed q size ≡ refuse 10 → Outcome table closed q size
+  no-route : Passed table closed q size → routesOf table closed q ≡ [] → answerAmong only table closed q size ≡ refuse 10 → Outcome only table closed q size
   -- with 0 or 1
-  with-pair : Passed table closed q size → 0 < length (routesOf table closed q) → answerAround table closed q size ≡ answered table closed q → Outcome table closed q size
+  with-pair : Passed table closed q size → 0 < length (routesOf table closed q) → someAt (judgesOf only table closed q) (routesOf table closed q) (q .allowance) ≡ true
+      → answerAmong only table closed q size ≡ answered only table closed q → Outcome only table closed q size
+  -- with 14: every route was a main
+  none-at-all : Passed table closed q size → 0 < length (routesOf table closed q) → someAt (judgesOf only table closed q) (routesOf table closed q) (q .allowance) ≡ false
+      → length (routesOf table closed q) ≤ q .allowance → answerAmong only table closed q size ≡ refuse 14 → Outcome only table closed q size
+  -- with 15
+  none-yet : Passed table closed q size → 0 < length (routesOf table closed q) → someAt (judgesOf only table closed q) (routesOf table closed q) (q .allowance) ≡ false
+      → q .allowance < length (routesOf table closed q) → answerAmong only table closed q size ≡ refuse 15 → Outcome only table closed q size
 
-pub ranked-step : (routes : List Route) (allowance : ℕ) → 0 < length routes → 0 < allowance → Step routes (ranked every routes allowance)
+pub ranked-step : (ok : Pair → Bool) (routes : List Route) (allowance : ℕ) → 0 < length routes → 0 < allowance → Step routes (ranked ok routes allowance)
 unfolding ranked
-ranked-step routes allowance h a = let s = least-settled-step every routes h in record { from-one = omega (arith, s .from-one); to-N = omega (arith, s .to-N) }
+ranked-step ok routes allowance h a = let s = least-settled-step ok routes h in record { from-one = omega (arith, s .from-one); to-N = omega (arith, s .to-N) }
 
-planned-none : (routes : List Route) (allowance : ℕ) → length routes ≡ 0 → (routes ≡ []) × (planned routes allowance ≡ refuse 10)
-unfolding planned
-planned-none [] allowance e = (refl, refl)
-planned-none (r ∷ routes) allowance e = absurd (omega arith)
+module _ (ok : Pair → Bool) where
+  planned-none : (routes : List Route) (allowance : ℕ) → length routes ≡ 0 → (routes ≡ []) × (planned ok routes allowance ≡ refuse 10)
+  unfolding planned
+  planned-none [] allowance e = (refl, refl)
+  planned-none (r ∷ routes) allowance e = absurd (omega arith)
 
-planned-some : (routes : List Route) (allowance : ℕ) → 0 < length routes
-    → planned routes allowance
-    ≡ record { number = verdict every routes allowance; reply = replyOf (verdict every routes allowance) (floor routes) (ranked every routes allowance) (best every routes (ranked every routes allowance)) }
-unfolding planned
-planned-some [] allowance h = absurd (omega arith)
-planned-some (r ∷ routes) allowance h = refl
+  pub planned-some : (routes : List Route) (allowance : ℕ) → 0 < length routes
+      → planned ok routes allowance ≡ (if someAt ok routes allowance then paired ok routes allowance else refuse (if leb (length routes) allowance then 14 else 15))
+  unfolding planned
+  planned-some [] allowance h = absurd (omega arith)
+  planned-some (r ∷ routes) allowance h = refl
 
-pub outcome : (table closed : List ℕ) (q : Request) (size : ℕ) → Outcome table closed q size
-unfolding answerAround plannedUnless
-outcome table closed q size = by-number (refusal table closed q size) refl
+pub outcome : (only : Bool) (table closed : List ℕ) (q : Request) (size : ℕ) → Outcome only table closed q size
+unfolding answerAmong plannedUnless
+outcome only table closed q size = by-number (refusal table closed q size) refl
   where
-    by-length : Passed table closed q size → (n : ℕ) → length (routesOf table closed q) ≡ n → planned (routesOf table closed q) (q .allowance) ≡ answerAround table closed q size → Outcome table closed q size
-    by-length p zero e f = let o = planned-none (routesOf table closed q) (q .allowance) e in no-route p (o .0) (sym f ∙ o .1)
-    by-length p (suc n) e f = let some : 0 < length (routesOf table closed q) = omega arith in with-pair p some (sym f ∙ planned-some (routesOf table closed q) (q .allowance) some)
+    ok : Pair → Bool
+    ok = judgesOf only table closed q
 
-    by-number : (n : ℕ) → refusal table closed q size ≡ n → Outcome table closed q size
-    by-number zero e = by-length (refusal-passed table closed q size e) (length (routesOf table closed q)) refl (ap (λ (x : ℕ). plannedUnless x (plannedArcs table closed) q) (sym e))
-    by-number (suc n) e = by-check (suc n) e (refusal-told table closed q size n e) (ap (λ (x : ℕ). plannedUnless x (plannedArcs table closed) q) e)
+    routes : List Route
+    routes = routesOf table closed q
+
+    Planned : Type 0
+    Planned = answerAmong only table closed q size ≡ planned ok routes (q .allowance)
+
+    by-pairs : Passed table closed q size → 0 < length routes → Planned → (b : Bool) → someAt ok routes (q .allowance) ≡ b → (c : Bool) → leb (length routes) (q .allowance) ≡ c → Outcome only table closed q size
+    by-pairs p some f true e c g = with-pair p some e (f ∙ planned-some ok routes (q .allowance) some ∙ rw e)
+    by-pairs p some f false e true g = none-at-all p some e (leb-true (length routes) (q .allowance) g) (f ∙ planned-some ok routes (q .allowance) some ∙ rw (e, g))
+    by-pairs p some f false e false g = none-yet p some e (leb-false (length routes) (q .allowance) g) (f ∙ planned-some ok routes (q .allowance) some ∙ rw (e, g))
+
+    by-length : Passed table closed q size → (n : ℕ) → length routes ≡ n → Planned → Outcome only table closed q size
+    by-length p zero e f = let o = planned-none ok routes (q .allowance) e in no-route p (o .0) (f ∙ o .1)
+    by-length p (suc n) e f = by-pairs p (omega arith) f (someAt ok routes (q .allowance)) refl (leb (length routes) (q .allowance)) refl
+
+    by-number : (n : ℕ) → refusal table closed q size ≡ n → Outcome only table closed q size
+    by-number zero e = by-length (refusal-passed table closed q size e) (length routes) refl (ap (λ (x : ℕ). plannedUnless only x (plannedArcs table closed) q) e)
+    by-number (suc n) e = by-check (suc n) e (refusal-told table closed q size n e) (ap (λ (x : ℕ). plannedUnless only x (plannedArcs table closed) q) e)
 
 -- ---- the fields of a reply, read back
 

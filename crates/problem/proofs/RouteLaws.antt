@@ -17,6 +17,31 @@ use Rattle.problem.specs.declared.Arc.{Arc}
 use Rattle.problem.specs.Table.{lastNode}
 use Rattle.problem.specs.Routes.{arcAt, nodesFrom, Way, IsPath, opens, sprout, grow}
 
+-- ---- the nodes that a list of arcs meets: the first one, and the heads
+
+module _ (arcs : List Arc) where
+  pub first-node : (v : ℕ) (ks : List ℕ) → List·Memᴰ v (nodesFrom arcs v ks)
+  unfolding nodesFrom
+  first-node v [] = List·Memᴰ·head refl
+  first-node v (k ∷ ks) = List·Memᴰ·head refl
+
+  pub head-met : (v : ℕ) {k : ℕ} {ks : List ℕ} → List·Memᴰ k ks → List·Memᴰ (arcAt arcs k .head) (nodesFrom arcs v ks)
+  unfolding nodesFrom
+  head-met v (List·Memᴰ·head {x = j} {xs = js} e) = List·Memᴰ·tail (Memᴰ·cast (ap (λ (i : ℕ). arcAt arcs i .head) e) (first-node (arcAt arcs j .head) js))
+  head-met v (List·Memᴰ·tail {x = j} m) = List·Memᴰ·tail (head-met (arcAt arcs j .head) m)
+
+  -- of a way: its end, and the tails
+  pub way-end : {v to : ℕ} {ks : List ℕ} → Way arcs v to ks → List·Memᴰ to (nodesFrom arcs v ks)
+  unfolding nodesFrom
+  way-end (Way.there e) = List·Memᴰ·head (sym e)
+  way-end (Way.over b t w) = List·Memᴰ·tail (way-end w)
+
+  pub tail-met : {v to k : ℕ} {ks : List ℕ} → Way arcs v to ks → List·Memᴰ k ks → List·Memᴰ (arcAt arcs k .tail) (nodesFrom arcs v ks)
+  unfolding nodesFrom
+  tail-met (Way.there e) m = absurd (List·Memᴰ·not-nil m)
+  tail-met (Way.over b t w) (List·Memᴰ·head e) = List·Memᴰ·head (ap (λ (i : ℕ). arcAt arcs i .tail) e ∙ t)
+  tail-met (Way.over b t w) (List·Memᴰ·tail m) = List·Memᴰ·tail (tail-met w m)
+
 -- ---- an arc that opens
 
 pub opens-tail : (met at : ℕ) (a : Arc) → opens met at a ≡ true → a .tail ≡ at
@@ -211,16 +236,6 @@ module _ (arcs : List Arc) (terminal : ℕ) where
       let now-met : bit (with met h) h ≡ 1 = rw (bit-with, eq-eqb h h refl) (omega (arith, opens-new met at (arcAt arcs k) o)) in
       Pairwise.one {a = at} {l = nodesFrom arcs h ks} (λ x m q. omega (arith, ap (bit met) q, grown-new (step b ne o g) x m)) (grown-distinct now-met g)
 
-  way-end : {v : ℕ} {ks : List ℕ} → Way arcs v terminal ks → List·Memᴰ terminal (nodesFrom arcs v ks)
-  unfolding nodesFrom
-  way-end (Way.there e) = List·Memᴰ·head (sym e)
-  way-end (Way.over b t w) = List·Memᴰ·tail (way-end w)
-
-  first-node : (v : ℕ) (ks : List ℕ) → List·Memᴰ v (nodesFrom arcs v ks)
-  unfolding nodesFrom
-  first-node v [] = List·Memᴰ·head refl
-  first-node v (k ∷ ks) = List·Memᴰ·head refl
-
   pub way-grown : {met at : ℕ} {ks : List ℕ} → Way arcs at terminal ks → Distinct (nodesFrom arcs at ks)
       → ((h : ℕ) → List·Memᴰ h (nodesFrom arcs at ks) → (at ≡ h → ⊥) → bit met h ≡ 0) → Grown met at ks
   unfolding nodesFrom digit
@@ -228,18 +243,31 @@ module _ (arcs : List Arc) (terminal : ℕ) where
   way-grown {met} {at} (Way.over {k = k} {ks = ks} b t w) d f =
       let h : ℕ = arcAt arcs k .head in
       let other : (x : ℕ) → List·Memᴰ x (nodesFrom arcs h ks) → at ≡ x → ⊥ = pairwise-head d in
-      let new : bit met h ≡ 0 = f h (List·Memᴰ·tail (first-node h ks)) (other h (first-node h ks)) in
-      step b (other terminal (way-end w)) (opens-by met at (arcAt arcs k) t new)
+      let new : bit met h ≡ 0 = f h (List·Memᴰ·tail (first-node arcs h ks)) (other h (first-node arcs h ks)) in
+      step b (other terminal (way-end arcs w)) (opens-by met at (arcAt arcs k) t new)
       (way-grown w (pairwise-tail d)
       (λ x m ne. rw (bit-with, ne-eqb x h (λ q. ne (sym q))) (omega (arith, f x (List·Memᴰ·tail m) (other x m)))))
 
-  -- a list of arc numbers is grown from `source` exactly where it is a path
+  -- a list of arc numbers is grown from `source` exactly where it is a path that, but there, meets no node that was met
+  pub grown-off : {met : ℕ} (source : ℕ) → bit met source ≡ 1 → (ks : List ℕ)
+      → Grown met source ks ↔ (IsPath arcs source terminal ks × ((h : ℕ) → List·Memᴰ h (nodesFrom arcs source ks) → (source ≡ h → ⊥) → bit met h ≡ 0))
+  unfolding nodesFrom
+  grown-off {met} source here ks = (λ g. (record { way = grown-way g; no-node-twice = grown-distinct here g }, new ks g), λ p. way-grown (p .0 .way) (p .0 .no-node-twice) (p .1))
+    where
+      later : {k : ℕ} {l : List ℕ} → Grown met source (k ∷ l) → (h : ℕ) → (h ≡ source) ⊎ List·Memᴰ h (nodesFrom arcs (arcAt arcs k .head) l) → (source ≡ h → ⊥) → bit met h ≡ 0
+      later g h (inl e) ne = absurd (ne (sym e))
+      later g h (inr m) ne = grown-new g h m
+
+      new : (l : List ℕ) → Grown met source l → (h : ℕ) → List·Memᴰ h (nodesFrom arcs source l) → (source ≡ h → ⊥) → bit met h ≡ 0
+      new [] g h m ne = absurd (ne (sym (List·Memᴰ·eq-of-singleton m)))
+      new (k ∷ l) g h m ne = later g h (List·Memᴰ·cases-cons m) ne
+
+  -- and where only `source` was met, exactly where it is a path
   pub grown-exact : (source : ℕ) (ks : List ℕ) → Grown (with 0 source) source ks ↔ IsPath arcs source terminal ks
   unfolding digit
-  grown-exact source ks = (
-    λ g. record { way = grown-way g; no-node-twice = grown-distinct (rw (bit-single, eq-eqb source source refl)) g },
-    λ p. way-grown (p .way) (p .no-node-twice) (λ h m ne. rw (bit-single, ne-eqb h source (λ q. ne (sym q)))),
-  )
+  grown-exact source ks =
+      let off = grown-off {met = with 0 source} source (rw (bit-single, eq-eqb source source refl)) ks in
+      (λ g. off .0 g .0, λ p. off .1 (p, λ h m ne. rw (bit-single, ne-eqb h source (λ q. ne (sym q)))))
 
 -- 31 nodes besides the source
 pub unmet-source : (source : ℕ) → source ≤ lastNode → unmet 32 (with 0 source) ≡ 31

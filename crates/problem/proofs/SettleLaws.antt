@@ -1,22 +1,22 @@
 -- Settled: once settled, settled from there on; J exists and is the least; what a settled step says of all pairs that pass. Assumes nothing.
 use mathlib.Core.Path.{_≡_, refl, sym, ap, _∙_}
-use mathlib.Core.Logic.{_⊎_, inl, inr}
+use mathlib.Core.Logic.{_⊎_, inl, inr, _↔_}
 use mathlib.Core.Bool.{Bool, true, false, _||_, true≢false}
 use mathlib.Core.List.{List, List·Memᴰ, Memᴰ·cast}
-use Prim.Native.Nat.{ℕ, _*_, _-_, _≤_, _<_}
+use Prim.Native.Nat.{ℕ, _*_, _-_, _≤_, _<_, min}
 use native.Mathlib.Omega.{arith}
-use lib.Dec.{eqb, ltb}
+use lib.Dec.{eqb, leb, ltb}
 use lib.ListN.{length, getD, take}
-use borrow.Author.Tests.{eq-eqb, eqb-true, eqb-false, leb-true, le-leb, ltb-true, ltb-false}
+use borrow.Author.Tests.{eq-eqb, eqb-true, eqb-false, leb-true, leb-false, le-leb, ltb-true, ltb-false}
 use Rattle.laws.proofs.BoolLaws.{both}
 use Rattle.laws.proofs.FirstLaws.{Least, least-from}
 use Rattle.laws.proofs.ListLaws.{Place, Early, mem-place, take-place, getD-take-mem, pairwise-at}
 use Rattle.laws.proofs.SortLaws.{Strict, place-order}
 use Rattle.problem.specs.Routes.{Route, precedes}
-use Rattle.problem.specs.Pairs.{Pair, pair, sharedCount, total, NoWorse, noRoute, Step, floor, someAt, best, settledByLength, settled, leastSettled}
+use Rattle.problem.specs.Pairs.{Pair, pair, sharedCount, total, NoWorse, noRoute, Step, floor, someAt, best, settledByLength, settled, leastSettled, ranked}
 use Rattle.problem.proofs.RankingLaws.{precedes-weak, precedes-metres}
 use Rattle.problem.proofs.PairLaws.{floor-le, judged-no-worse, swap-shared, swap-total, swap-judged}
-use Rattle.problem.proofs.CandidateLaws.{Even, Candidate, best-least, best-in, best-main, best-mono, some-more}
+use Rattle.problem.proofs.CandidateLaws.{Even, Candidate, best-least, best-in, best-main, best-mono, some-more, some-all}
 
 -- the ranking is by length
 pub metres-mono : (routes : List Route) → Strict precedes routes → (i k : ℕ) → i ≤ k → k < length routes → getD routes i noRoute .metres ≤ getD routes k noRoute .metres
@@ -61,6 +61,14 @@ module _ (ok : Pair → Bool) (routes : List Route) where
       either true = refl
       either false = refl
 
+  -- a step with no pair yet is settled only at N
+  pub settled-without : (j : ℕ) → someAt ok routes j ≡ false → (settled ok routes j ≡ true) ↔ (j ≡ length routes)
+  settled-without j none = (λ h. go (settled-cases j h), λ e. ap (settled ok routes) e ∙ settled-last)
+    where
+      go : (j ≡ length routes) ⊎ ByLength ok routes j → j ≡ length routes
+      go (inl e) = e
+      go (inr b) = absurd (true≢false (sym (b .some) ∙ none))
+
   -- J is the least settled step, and at most N
   pub least-settled : 0 < length routes → Least (settled ok routes) 1 (leastSettled ok routes)
   unfolding leastSettled
@@ -75,6 +83,22 @@ module _ (ok : Pair → Bool) (routes : List Route) where
 
   pub least-settled-step : 0 < length routes → Step routes (leastSettled ok routes)
   least-settled-step h = record { from-one = least-settled h .from; to-N = least-settled-inside h }
+
+  -- a pair within the allowance is within the step that is replied: before N a step is settled only with a pair
+  pub some-ranked : (a : ℕ) → 0 < length routes → someAt ok routes a ≡ true → someAt ok routes (ranked ok routes a) ≡ true
+  unfolding ranked
+  some-ranked a h some = go (leb (leastSettled ok routes) a) refl (settled-cases (leastSettled ok routes) (least-settled h .holds))
+    where
+      J : ℕ
+      J = leastSettled ok routes
+
+      at-J : (J ≡ length routes) ⊎ ByLength ok routes J → someAt ok routes J ≡ true
+      at-J (inl e) = some-all ok routes J a (omega arith) some
+      at-J (inr b) = b .some
+
+      go : (b : Bool) → leb J a ≡ b → (J ≡ length routes) ⊎ ByLength ok routes J → someAt ok routes (min J a) ≡ true
+      go true e by = some-more ok routes (omega (arith, leb-true J a e)) (at-J by)
+      go false e by = some-more ok routes (omega (arith, leb-false J a e)) some
 
   module _ (strict : Strict precedes routes) where
     floor-best : (j : ℕ) → someAt ok routes j ≡ true → floor routes ≤ sharedCount (best ok routes j)

@@ -2,14 +2,14 @@
 -- goes over its arcs; and ways do no better than routes, in reach, for the floor and for shortest lengths. The route is the way with its loops cut out from the far end on. Assumes nothing.
 use mathlib.Core.Path.{_≡_, refl, sym, ap, _∙_, subst}
 use mathlib.Core.Logic.{_⊎_, inl, inr, _↔_}
-use mathlib.Core.List.{List, [], _∷_, _++_, List·Memᴰ, List·Memᴰ·not-nil, List·Memᴰ·cases-cons, Memᴰ·map, Memᴰ·of-map, Memᴰ·cast}
+use mathlib.Core.List.{List, [], _∷_, _++_, List·Memᴰ, List·Memᴰ·head, List·Memᴰ·tail, List·Memᴰ·not-nil, List·Memᴰ·cases-cons, List·Memᴰ·eq-of-singleton, Memᴰ·map, Memᴰ·of-map, Memᴰ·cast}
 use Prim.Native.Nat.{ℕ, _+_, _≤_, _<_}
 use native.Mathlib.Omega.{arith}
 use lib.Dec.{ltb}
 use borrow.Author.Tests.{ltb-false}
 use Rattle.laws.specs.Choosing.{Pairwise, Distinct, keep, firstBy}
 use Rattle.laws.proofs.ListLaws.{keep-in, keep-out, pairwise-tail}
-use Rattle.laws.proofs.PartLaws.{Part, part-whole, part-trans, mem-or-not}
+use Rattle.laws.proofs.PartLaws.{Part, part-whole, part-trans, part-mem, mem-or-not}
 use Rattle.laws.proofs.OrderLaws.{ltb-total, total-weak}
 use Rattle.laws.proofs.FirstLaws.{first-mem, first-least}
 use Rattle.problem.specs.declared.Arc.{Arc}
@@ -19,6 +19,7 @@ use Rattle.problem.specs.Exposures.{exposed, ofArc, joined, disjoint}
 use Rattle.problem.specs.Routes.{Mesh, arcAt, metresOf, exposureOf, nodesFrom, Way, IsWay, IsPath, pathsFrom, Route, routeOf, routesFrom, ranking, FreeWay, freeLengths, shortest}
 use Rattle.problem.specs.Pairs.{pair, sharedCount, total, onEvery}
 use Rattle.problem.proofs.ExposureLaws.{exposed-le-one, exposed-joined, joined-assoc, nothing-joined, Inside, disjoint-inside}
+use Rattle.problem.proofs.RouteLaws.{first-node, head-met}
 use Rattle.problem.proofs.PathLaws.{LowHeads, paths-out, paths-in}
 use Rattle.problem.proofs.RankingLaws.{ranking-in, ranking-out}
 use Rattle.problem.proofs.PairLaws.{shared-mono, every-inside, every-all}
@@ -54,6 +55,19 @@ module _ (arcs : List Arc) where
   part-exposure Part.none b = omega arith
   part-exposure (Part.past p) b = rw exposed-joined (omega (arith, part-exposure p b))
   part-exposure (Part.with-it p) b = simp exposed-joined (omega (arith, part-exposure p b))
+
+  -- a list meets no node that another does not, where it begins at such a node and all its arcs are the other's
+  met-too : (v : ℕ) (r : List ℕ) (u : ℕ) (l : List ℕ) → List·Memᴰ u (nodesFrom arcs v r) → ((k : ℕ) → List·Memᴰ k l → List·Memᴰ k r) → {x : ℕ} → List·Memᴰ x (nodesFrom arcs u l) → List·Memᴰ x (nodesFrom arcs v r)
+  unfolding nodesFrom
+  met-too v r u [] n f m = Memᴰ·cast (List·Memᴰ·eq-of-singleton m) n
+  met-too v r u (k ∷ l) n f {x} m = go (List·Memᴰ·cases-cons m) (λ q. met-too v r (arcAt arcs k .head) l (head-met arcs v (f k (List·Memᴰ·head refl))) (λ i y. f i (List·Memᴰ·tail y)) q)
+    where
+      go : (x ≡ u) ⊎ List·Memᴰ x (nodesFrom arcs (arcAt arcs k .head) l) → (List·Memᴰ x (nodesFrom arcs (arcAt arcs k .head) l) → List·Memᴰ x (nodesFrom arcs v r)) → List·Memᴰ x (nodesFrom arcs v r)
+      go (inl e) later = Memᴰ·cast e n
+      go (inr q) later = later q
+
+  pub part-nodes : (v : ℕ) {l r : List ℕ} → Part l r → {x : ℕ} → List·Memᴰ x (nodesFrom arcs v l) → List·Memᴰ x (nodesFrom arcs v r)
+  part-nodes v {l} {r} p m = met-too v r v l (first-node arcs v r) (λ k y. part-mem p y) m
 
   -- two of them as a pair
   pub part-shared : {is js ks ls : List ℕ} → Part is ks → Part js ls → sharedCount (pair (routeOf arcs is) (routeOf arcs js)) ≤ sharedCount (pair (routeOf arcs ks) (routeOf arcs ls))

@@ -1,9 +1,9 @@
 -- Calls, as the promises speak of them: the routes and the ways of a call, the test of each number and its turn, the lowest faulty arc and the lowest blank one, the pair that a reply says, another allowance, and what a call of the entry does. Assumes nothing.
 use Prim.Native.Nat.{ℕ, _+_, _*_, _%_, _≤_, _<_}
-use mathlib.Core.Bool.{true, false}
+use mathlib.Core.Bool.{Bool, true, false}
 use mathlib.Core.List.{List, _++_, List·Memᴰ}
 use mathlib.Core.Path.{_≡_}
-use lib.ListN.{length}
+use lib.ListN.{length, take}
 use Rattle.problem.specs.declared.Arc.{Arc}
 use Rattle.problem.specs.declared.Fault.{Fault}
 use Rattle.problem.specs.declared.Request.{Request}
@@ -13,7 +13,8 @@ use Rattle.problem.specs.Spans.{spanless, markedArcs}
 use Rattle.problem.specs.Closed.{closedSize, closedIn, isOpen, noneClosed, shutIn, plannedArcs}
 use Rattle.problem.specs.Routes.{Route, IsRoute, IsWay, arcAt, routeOf, ranking}
 use Rattle.problem.specs.Pairs.{Pair, pair}
-use Rattle.problem.specs.Reply.{request, meshOf, Answer, firstNumber, sizeChecks, requestChecks, arcChecks, closedChecks, plainChecks, refusal, plannedUnless, answerAround, after, mainIn, standbyIn}
+use Rattle.problem.specs.Apart.{Apart}
+use Rattle.problem.specs.Reply.{request, meshOf, Answer, firstNumber, sizeChecks, requestChecks, arcChecks, closedChecks, plainChecks, refusal, plannedUnless, answerAmong, after, mainIn, standbyIn}
 
 -- the routes of a call, in their ranking; N is how many there are
 abbrev pub routesOf : (table closed : List ℕ) → Request → List Route
@@ -33,6 +34,12 @@ pairMadeOf arcs main standby = pair (routeOf arcs main) (routeOf arcs standby)
 
 abbrev pub pairSaid : List Arc → List ℕ → Pair
 pairSaid arcs reply = pairMadeOf arcs (mainIn reply) (standbyIn reply)
+
+-- a pair that is judged where only those that are apart are: its main is among the first `allowance` routes of the ranking, its standby is any route, and the two are apart (T-05)
+pub record ApartWithin (table closed : List ℕ) (q : Request) (m s : Route) : Type 0 where
+  pub main-allowed : List·Memᴰ m (take (q .allowance) (routesOf table closed q))
+  pub standby-listed : List·Memᴰ s (routesOf table closed q)
+  pub apart : Apart (meshOf table closed q) (m .arcs) (s .arcs)
 
 -- the same request with another allowance
 abbrev pub allowing : Request → ℕ → Request
@@ -78,15 +85,15 @@ pub record LowestBlank (arcs : List Arc) (i : ℕ) : Type 0 where
 
 -- the answer with spans left out: as `answerAround`, but that no arc has one (T-03)
 abbrev pub answerByRisks : (table closed : List ℕ) → Request → ℕ → Answer
-answerByRisks table closed q size = plannedUnless (refusal table closed q size) (shutIn (closedIn closed) (spanless (arcsOf table))) q
+answerByRisks table closed q size = plannedUnless false (refusal table closed q size) (shutIn (closedIn closed) (spanless (arcsOf table))) q
 
 -- the answer as it was before a call could bring a closed set: without its check, over all arcs (T-06)
 abbrev pub answerOverAll : List ℕ → Request → ℕ → Answer
-answerOverAll table q size = plannedUnless (firstNumber (plainChecks table q size)) (markedArcs table) q
+answerOverAll table q size = plannedUnless false (firstNumber (plainChecks table q size)) (markedArcs table) q
 
 -- the answer as it was while a blank was let through: without its check (T-09)
 abbrev pub answerWithBlanks : (table closed : List ℕ) → Request → ℕ → Answer
-answerWithBlanks table closed q size = plannedUnless (firstNumber (sizeChecks table size ++ requestChecks q ++ arcChecks table ++ closedChecks table closed)) (plannedArcs table closed) q
+answerWithBlanks table closed q size = plannedUnless false (firstNumber (sizeChecks table size ++ requestChecks q ++ arcChecks table ++ closedChecks table closed)) (plannedArcs table closed) q
 
 -- a second closed set that closes what the first does, and else only arcs that lie on no route of the call with the first
 pub record ClosesAside (table closed more : List ℕ) (q : Request) : Type 0 where
@@ -94,9 +101,16 @@ pub record ClosesAside (table closed more : List ℕ) (q : Request) : Type 0 whe
   pub aside : (k : ℕ) → isOpen (closedIn closed) k ≡ true → isOpen (closedIn more) k ≡ false → (ks : List ℕ) → RouteOf table closed q ks → List·Memᴰ k ks → ⊥
 
 -- what a call of a planning entry does: it finds `before` in the reply buffer, returns `number` and leaves `now`
-pub record CalledAround (table closed : List ℕ) (q : Request) (before : List ℕ) (number : ℕ) (now : List ℕ) : Type 0 where
-  pub number-is : number ≡ answerAround table closed q (length before) .number
-  pub buffer-is : now ≡ after (answerAround table closed q (length before)) before
+pub record CalledAmong (only : Bool) (table closed : List ℕ) (q : Request) (before : List ℕ) (number : ℕ) (now : List ℕ) : Type 0 where
+  pub number-is : number ≡ answerAmong only table closed q (length before) .number
+  pub buffer-is : now ≡ after (answerAmong only table closed q (length before)) before
+
+-- of the entry that judges every pair, and of the one that judges those that are apart (T-05)
+abbrev pub CalledAround : (table closed : List ℕ) → Request → (before : List ℕ) → ℕ → (now : List ℕ) → Type 0
+CalledAround = CalledAmong false
+
+abbrev pub CalledApart : (table closed : List ℕ) → Request → (before : List ℕ) → ℕ → (now : List ℕ) → Type 0
+CalledApart = CalledAmong true
 
 -- of the entry that takes no closed set
 abbrev pub Called : List ℕ → Request → List ℕ → ℕ → List ℕ → Type 0

@@ -1,6 +1,7 @@
 -- 01, Meshes worked by hand: the starred cases, proved as a single table against the definitions; and rows of our own, each there because a wrong definition
 -- would otherwise pass (docs/TESTING.md has the wrong definitions that were tried). Assumes nothing.
 use Prim.Native.Nat.{ℕ, zero, suc, _+_, _*_, _-_, _^_}
+use mathlib.Core.Bool.{Bool, true, false}
 use mathlib.Core.List.{List, [], _∷_, _++_, map}
 use mathlib.Core.Path.{_≡_, refl}
 use native.Mathlib.Omega.{arith}
@@ -13,7 +14,8 @@ use Rattle.problem.specs.Table.{nodes, mostArcs, riskWidth, mostShared, 
 use Rattle.problem.specs.Spans.{marked}
 use Rattle.problem.specs.Closed.{noneClosed, plannedArcs}
 use Rattle.problem.specs.Routes.{mesh, Way, paths, FreeWay, freeLengths, shortest}
-use Rattle.problem.specs.Reply.{request, Answer, answerAround, answer, refuse, sharedIn, floorIn, rankedIn, totalIn, sharedRisksIn, mainIn, standbyIn}
+use Rattle.problem.specs.Apart.{listsApart}
+use Rattle.problem.specs.Reply.{request, Answer, answerAround, answerApart, answer, refuse, sharedIn, floorIn, rankedIn, totalIn, sharedRisksIn, mainIn, standbyIn}
 use Rattle.problem.specs.Calls.{WayOf, allowing, LowestFault}
 use Rattle.problem.specs.Mending.{mendedTable, changeBytes, mendedList, changeIn, changesIn, oldNumber, mending}
 use Rattle.problem.specs.Printed.{kilometres, text, digits, output}
@@ -487,6 +489,77 @@ blanks-told-around = refl
 pub blanks-left : mendedTable (arc 3 3 5 0 ++ arc 0 1 1000 0 ++ arc 0 1 0 0) ∷ mendedList (arc 3 3 5 0 ++ arc 0 1 1000 0 ++ arc 0 1 0 0) ∷ [] ≡ (arc 0 1 1000 0 ++ arc 0 1 0 0) ∷ recordLost 0 2 ∷ []
 unfolding opened
 blanks-left = refl
+
+-- ---- T-05, pairs that meet in no building
+
+-- a row with a closed set, a reach and an allowance
+abbrev pub apart : List ℕ → (bytes : List ℕ) → (terminal reach allowance : ℕ) → Answer → AroundRow
+apart table bytes terminal reach allowance a = record { table = table; closed = closing bytes; request = request 0 terminal reach allowance; expected = a }
+
+-- two cables to node 1 and two on from there: routes over different cables share nothing, and all meet in node 1
+abbrev pub meshMeeting : List ℕ
+meshMeeting = arc 0 1 1000 1 ++ arc 0 1 1000 2 ++ arc 1 2 1000 4 ++ arc 1 2 1000 8
+
+-- [0,1] and [2,3] are apart and share risk 0, which [0,4,3] has not: what lies on every route is nothing
+abbrev pub meshFloor : List ℕ
+meshFloor = arc 0 1 1000 2 ++ arc 1 3 1000 1 ++ arc 0 2 1000 1 ++ arc 2 3 1000 4 ++ arc 1 2 1000 8
+
+-- [1,3] shares risk 0 with [2], which [1,0] does not: a search that forgets which nodes were in the way gives [2] with [1,3]
+abbrev pub meshInTheWay : List ℕ
+meshInTheWay = arc 1 2 5 16 ++ arc 0 1 2 6 ++ arc 0 2 3 1 ++ arc 1 2 1 9
+
+abbrev pub apartRows : List AroundRow
+apartRows =
+    apart meshA [] 3 10000 1 (refuse 15)  -- the shortest route meets both others: no pair yet
+    ∷ apart meshA [] 3 10000 2 answerA1  -- and then one: step 1 had none, so it was not settled, though no pair at all would share nothing at 0 metres
+    ∷ apart meshA [] 3 10000 1000 answerA1  -- and the same from there on
+    ∷ apart meshA [] 3 4999 1000 (refuse 14)  -- the shortest route alone
+    ∷ apart meshA [] 3 2999 1000 (refuse 10)  -- and none: 10 before 14
+    ∷ apart meshB [] 3 10000 9 answerB1  -- the plain pair is apart: the same 96 bytes
+    ∷ apart meshC [] 1 10000 1000 (written 0 0 0 1 1000 1000 0 (0 ∷ []) (1 ∷ []))  -- two cables have only their ends in common
+    ∷ apart meshD [] 1 10000 1000 (refuse 14)  -- a single arc used twice is out
+    ∷ apart (arc 0 1 1000 1 ++ arc 0 1 2000 1) [] 1 10000 1000 (written 0 1 1 2 1000 2000 1 (0 ∷ []) (1 ∷ []))  -- with a cable beside it that pair, longer and sharing as much
+    ∷ apart (arc 0 1 1000 1 ++ arc 0 1 2000 1) [] 1 10000 1 (written 1 1 1 1 1000 2000 1 (0 ∷ []) (1 ∷ []))  -- which is long enough for no step before N
+    ∷ apart (spanArc 0 1 7 1000 1 ++ spanArc 0 1 7 1000 2) [] 1 10000 1000 (writtenWith 1 0 1 1 1 1000 1000 0 (0 ∷ []) (1 ∷ []))  -- two arcs of one span may be apart: the span is shared
+    ∷ apart meshMeeting [] 2 10000 1000 (refuse 14)  -- a common node is out, though nothing is shared
+    ∷ apart meshMeeting [] 2 10000 4 (refuse 14)  -- from N on
+    ∷ apart meshMeeting [] 2 10000 3 (refuse 15)  -- and not before: 15 turns into 14
+    ∷ apart (meshMeeting ++ arc 0 2 9000 5) [] 2 10000 1000 (written 0 0 0 5 2000 9000 0 (1 ∷ 3 ∷ []) (4 ∷ []))  -- past the node, by a cable of its own
+    ∷ apart (meshMeeting ++ arc 0 2 9000 5) [] 2 10000 2 (written 1 1 0 2 2000 9000 1 (0 ∷ 3 ∷ []) (4 ∷ []))  -- fewer mains, more shared
+    ∷ apart meshFloor [] 3 10000 1000 (written 0 1 0 3 2000 2000 1 (0 ∷ 1 ∷ []) (2 ∷ 3 ∷ []))  -- the floor is that of all routes, so only N settles
+    ∷ apart meshFloor [] 3 10000 2 (written 1 1 0 2 2000 2000 1 (0 ∷ 1 ∷ []) (2 ∷ 3 ∷ []))  -- and two mains do not
+    ∷ apart meshInTheWay [] 2 100 2 (written 1 0 0 2 3 7 0 (2 ∷ []) (1 ∷ 0 ∷ []))  -- of two standbys the longer one, which shares less
+    ∷ apart meshA (16 ∷ []) 3 10000 1 (written 0 0 0 1 5000 5000 0 (0 ∷ 1 ∷ []) (2 ∷ 3 ∷ []))  -- with the shortest route closed, the two others at once
+    ∷ apart meshA (2 ∷ []) 3 10000 1000 (refuse 14)  -- with one of those two closed, none is left
+    ∷ apart meshA (2 ∷ []) 3 10000 1 (refuse 15)  -- which is known only at N
+    ∷ apart meshA (5 ∷ []) 3 10000 1000 (refuse 10)  -- with every arc from the source closed, no route is left
+    ∷ apart meshA (32 ∷ []) 3 10000 1000 (refuse 16)  -- a bit past the table is told before
+    ∷ apart meshLong [] 31 62000000 1000000 (refuse 14)  -- the longest route that there can be, alone
+    ∷ []
+
+pub planned-apart : map (λ r. answerApart (r .table) (r .closed) (r .request) 96) apartRows ≡ map (λ r. r .expected) apartRows
+unfolding opened
+planned-apart = refl
+
+-- of lists alone, from 0 to 3 in mesh A with an arc 5 back from 3 to 0 and an arc 6 from 3 to 1: two routes, either way round; a route and itself; two over arc 0, and two over arc 3; a way round by
+-- the source with a route, and one that takes an arc of it; a list past the terminal on to node 1, where the other was, with no arc in common; lists of no arc
+abbrev pub listsA : List ℕ → List ℕ → Bool
+listsA = listsApart (mesh (arcsOf (meshA ++ arc 3 0 1000 32 ++ arc 3 1 1000 64)) 0 3 0)
+
+pub lists-apart
+    : listsA (0 ∷ 1 ∷ []) (2 ∷ 3 ∷ [])
+    ∷ listsA (2 ∷ 3 ∷ []) (0 ∷ 1 ∷ [])
+    ∷ listsA (0 ∷ 1 ∷ []) (0 ∷ 1 ∷ [])
+    ∷ listsA (0 ∷ 1 ∷ []) (0 ∷ 4 ∷ 3 ∷ [])
+    ∷ listsA (0 ∷ 4 ∷ 3 ∷ []) (2 ∷ 3 ∷ [])
+    ∷ listsA (0 ∷ 1 ∷ 5 ∷ 0 ∷ 1 ∷ []) (2 ∷ 3 ∷ [])
+    ∷ listsA (0 ∷ 1 ∷ 5 ∷ 2 ∷ 3 ∷ []) (2 ∷ 3 ∷ [])
+    ∷ listsA (2 ∷ 3 ∷ 6 ∷ []) (0 ∷ 1 ∷ [])
+    ∷ listsA [] []
+    ∷ []
+    ≡ true ∷ true ∷ false ∷ false ∷ false ∷ true ∷ false ∷ false ∷ true ∷ []
+unfolding opened
+lists-apart = refl
 
 -- K: the kilometres of 0, 1, 1,000, 1,001 and 31,984 metres
 pub starred-K : map kilometres (0 ∷ 1 ∷ 1000 ∷ 1001 ∷ 31984 ∷ []) ≡ 0 ∷ 1 ∷ 1 ∷ 2 ∷ 32 ∷ []

@@ -5,6 +5,7 @@ pub mod Closed
 pub mod Exposures
 pub mod Routes
 pub mod Pairs
+pub mod Apart
 pub mod Reply
 pub mod Calls
 pub mod Mending

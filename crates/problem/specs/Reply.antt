@@ -1,9 +1,9 @@
 -- 01, The reply record; Numbers returned, and the order of checks. Assumes nothing.
 use Prim.Native.Nat.{ℕ, zero, suc, _+_, _-_, _%_, _^_, _≤_, _<_}
-use mathlib.Core.Bool.{Bool, true, _||_, not}
+use mathlib.Core.Bool.{Bool, true, false, _||_, not}
 use mathlib.Core.List.{List, [], _∷_, _++_}
 use mathlib.Core.Path.{_≡_}
-use lib.Dec.{eqb, ltb}
+use lib.Dec.{eqb, leb, ltb}
 use lib.ListN.{length, getD, take, drop, replicate}
 use Rattle.laws.specs.Choosing.{if_then_else_}
 use Rattle.problem.specs.declared.Arc.{Arc}
@@ -12,7 +12,8 @@ use Rattle.problem.specs.Table.{lastNode, mostReach, mostAllowance, most
 use Rattle.problem.specs.Blanks.{blanksNumber, noneBlank}
 use Rattle.problem.specs.Closed.{closedSize, closedIn, noneClosed, plannedArcs}
 use Rattle.problem.specs.Routes.{Mesh, mesh, Route, ranking}
-use Rattle.problem.specs.Pairs.{Pair, sharedRisks, sharedCount, sharedSpans, floor, every, best, ranked, verdict}
+use Rattle.problem.specs.Pairs.{Pair, sharedRisks, sharedCount, sharedSpans, floor, someAt, best, ranked, verdict}
+use Rattle.problem.specs.Apart.{judges}
 
 abbrev pub request : (source terminal reach allowance : ℕ) → Request
 request source terminal reach allowance = record { source = source; terminal = terminal; reach = reach; allowance = allowance }
@@ -157,22 +158,32 @@ pub record Passed (table closed : List ℕ) (q : Request) (size : ℕ) : Type 0 
   pub closed-set : ClosedSet table closed
   pub room : replySize ≤ size
 
--- the answer from the ranking, once those checks have passed
-unfoldable pub planned : List Route → ℕ → Answer
-planned [] allowance = refuse 10
-planned (r ∷ more) allowance =
+-- the answer from the ranking, once those checks have passed: the best of the pairs that are judged; or, where none of them has its main within the allowance, 14 if every
+-- route was a main, else 15 (T-05)
+unfoldable pub planned : (Pair → Bool) → List Route → ℕ → Answer
+planned ok [] allowance = refuse 10
+planned ok (r ∷ more) allowance =
     let routes : List Route = r ∷ more in
-    let p : Pair = best every routes (ranked every routes allowance) in
-    record { number = verdict every routes allowance; reply = replyOf (verdict every routes allowance) (floor routes) (ranked every routes allowance) p }
+    let p : Pair = best ok routes (ranked ok routes allowance) in
+    if someAt ok routes allowance
+    then record { number = verdict ok routes allowance; reply = replyOf (verdict ok routes allowance) (floor routes) (ranked ok routes allowance) p }
+    else refuse (if leb (length routes) allowance then 14 else 15)
 
--- planned over these arcs, unless a check has told a number
-unfoldable pub plannedUnless : ℕ → List Arc → Request → Answer
-plannedUnless zero arcs q = planned (ranking (meshOver arcs q)) (q .allowance)
-plannedUnless (suc n) arcs q = refuse (suc n)
+-- planned over these arcs, unless a check has told a number: of every pair, or where `only` is true of those that are apart
+unfoldable pub plannedUnless : (only : Bool) → ℕ → List Arc → Request → Answer
+plannedUnless only zero arcs q = planned (judges (meshOver arcs q) only) (ranking (meshOver arcs q)) (q .allowance)
+plannedUnless only (suc n) arcs q = refuse (suc n)
 
 -- the answer of a planning entry, for every table, closed set, request and size of buffer
-unfoldable pub answerAround : (table closed : List ℕ) → Request → ℕ → Answer
-answerAround table closed q size = plannedUnless (refusal table closed q size) (plannedArcs table closed) q
+unfoldable pub answerAmong : (only : Bool) (table closed : List ℕ) → Request → ℕ → Answer
+answerAmong only table closed q size = plannedUnless only (refusal table closed q size) (plannedArcs table closed) q
+
+-- of 01's pairs, which are all; and of those alone that are apart (T-05)
+abbrev pub answerAround : (table closed : List ℕ) → Request → ℕ → Answer
+answerAround = answerAmong false
+
+abbrev pub answerApart : (table closed : List ℕ) → Request → ℕ → Answer
+answerApart = answerAmong true
 
 -- with nothing closed: the answer of the entry that takes no closed set
 abbrev pub answer : List ℕ → Request → ℕ → Answer

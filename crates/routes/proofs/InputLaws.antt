@@ -53,7 +53,7 @@ printed-after table q buffer l = go (ltb (answer table q replySize .number) 2) r
     go : (b : Bool) → ltb (a .number) 2 ≡ b
         → (if ltb (a .number) 2 then lines (a .reply ++ drop (length (a .reply)) buffer) else (text "refused" ++ fields (a .number ∷ [])))
         ≡ (if ltb (a .number) 2 then lines (a .reply) else (text "refused" ++ fields (a .number ∷ [])))
-    go true e = rw (e) (ap lines (ap (λ (x : List ℕ). a .reply ++ x) (drop-of-length-le buffer {i = length (a .reply)} (omega (arith, l, reply-size (low-number table noneClosed q replySize (omega (arith, ltb-true (a .number) 2 e)))))) ∙ append-nil (a .reply)))
+    go true e = rw (e) (ap lines (ap (λ (x : List ℕ). a .reply ++ x) (drop-of-length-le buffer {i = length (a .reply)} (omega (arith, l, reply-size (low-number false table noneClosed q replySize (omega (arith, ltb-true (a .number) 2 e)))))) ∙ append-nil (a .reply)))
     go false e = rw (e)
 
 pub output-answer : (input : List ℕ) → faulty input ≡ false → {n : ℕ} {before now : List ℕ} → length before ≡ replySize

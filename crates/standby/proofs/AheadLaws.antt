@@ -5,36 +5,27 @@ use mathlib.Core.List.{List, [], _∷_, foldl, List·Memᴰ, List·Memᴰ·head,
 use Prim.Native.Nat.{ℕ, suc, _+_, _≤_, _<_, min}
 use native.Mathlib.Nat.{add-assoc}
 use native.Mathlib.Omega.{arith}
-use lib.Dec.{leb}
+use lib.Dec.{eqb, leb}
 use lib.ListN.{length}
-use borrow.Author.Tests.{leb-true}
-use Rattle.laws.specs.Sets.{bit, with}
+use borrow.Author.Tests.{eqb-false, leb-true}
+use Rattle.laws.specs.Sets.{bit}
 use Rattle.laws.proofs.SetLaws.{bit-with}
 use Rattle.problem.specs.declared.Arc.{Arc}
 use Rattle.problem.specs.declared.Exposure.{Exposure}
 use Rattle.problem.specs.Exposures.{toNothing, ofArc, joined, common, sharing}
 use Rattle.problem.specs.Routes.{Mesh, arcAt, metresOf, exposureOf, Way}
 use Rattle.problem.proofs.ExposureLaws.{Inside, joined-assoc, sharing-mono, sharing-part}
-use Rattle.problem.proofs.RouteLaws.{Grown, grow-out, grown-way, opens-new}
+use Rattle.problem.proofs.RouteLaws.{grow-out, grown-way}
 use Rattle.keys.specs.Keys.{standbyKey}
 use Rattle.keys.proofs.BoundLaws.{standbyKey-mono}
 use Rattle.net.specs.declared.Behind.{Behind}
-use Rattle.net.specs.Search.{behind, along, visit, onward, searched}
+use Rattle.net.specs.Search.{along, lastOf, noArc, visit, onward, searched}
 use Rattle.net.proofs.SearchLaws.{along-metres, along-exposure}
+use Rattle.bars.specs.declared.Barred.{Barred}
+use Rattle.bars.specs.Bars.{startBarred, unbarred, Avoids}
 use Rattle.standby.specs.Standby.{offered}
-use Rattle.standby.specs.Ahead.{Quest, quest, Avoids, keyBy, Ahead, NoneBelow, leastOf}
-
--- ---- what is grown avoids what was met
-
-grown-avoids : (arcs : List Arc) (terminal banned : ℕ) {met at : ℕ} {ks : List ℕ} → ((u : ℕ) → bit banned u ≤ bit met u) → Grown arcs terminal met at ks → Avoids arcs banned ks
-grown-avoids arcs terminal banned f (Grown.done e) = Avoids.none
-grown-avoids arcs terminal banned {met} {at} f (Grown.step {k = k} b ne o g) =
-    Avoids.one {k = k} (omega (arith, f (arcAt arcs k .head), opens-new met at (arcAt arcs k) o))
-    (grown-avoids arcs terminal banned (λ u. simp bit-with (omega (arith, f u))) g)
-
-avoids-fewer : (arcs : List Arc) (fewer banned : ℕ) {ks : List ℕ} → ((u : ℕ) → bit fewer u ≤ bit banned u) → Avoids arcs banned ks → Avoids arcs fewer ks
-avoids-fewer arcs fewer banned f Avoids.none = Avoids.none
-avoids-fewer arcs fewer banned f (Avoids.one {k = k} e o) = Avoids.one {k = k} (omega (arith, f (arcAt arcs k .head))) (avoids-fewer arcs fewer banned f o)
+use Rattle.standby.specs.Ahead.{Quest, quest, keyBy, Ahead, NoneBelow, leastOf}
+use Rattle.standby.proofs.AvoidLaws.{Milder, avoids-milder, grown-avoids}
 
 -- ---- ahead
 
@@ -80,35 +71,38 @@ module _ (q : Quest) where
 
   -- one arc more
   pub ahead-step : {n x v metres : ℕ} {e : Exposure} → (v ≡ q .mesh .terminal → ⊥)
-      → ((k : ℕ) → k < length arcs → arcAt arcs k .tail ≡ v → bit (q .banned) (arcAt arcs k .head) ≡ 0
+      → ((k : ℕ) → k < length arcs → arcAt arcs k .tail ≡ v → bit (q .off .nodes) (arcAt arcs k .head) ≡ 0 → (arcAt arcs k .head ≡ q .mesh .terminal → k ≡ q .off .last → ⊥)
       → Ahead q n x (arcAt arcs k .head) (metres + arcAt arcs k .metres) (joined e (ofArc (arcAt arcs k))))
       → Ahead q (suc n) x v metres e
   unfolding metresOf exposureOf
   ahead-step {n} {x} {v} {metres} {e} ne f = record { above = λ ks o h. go ks (o .way) (o .avoids) (o .within-reach) h }
     where
-      go : (ks : List ℕ) → Way arcs v (q .mesh .terminal) ks → Avoids arcs (q .banned) ks → metres + metresOf arcs ks ≤ q .mesh .reach → length ks ≤ suc n → x ≤ keyBy q metres e ks
+      go : (ks : List ℕ) → Way arcs v (q .mesh .terminal) ks → Avoids (q .mesh) (q .off) ks → metres + metresOf arcs ks ≤ q .mesh .reach → length ks ≤ suc n → x ≤ keyBy q metres e ks
       go [] (Way.there at) o r h = absurd (ne at)
-      go (k ∷ ks) (Way.over i t w) (Avoids.one p o) r h =
-          rw (← add-assoc, ← joined-assoc) (f k i t p .above ks (record { way = w; avoids = o; within-reach = omega arith }) (omega arith))
+      go (k ∷ ks) (Way.over i t w) (Avoids.one p z o) r h =
+          rw (← add-assoc, ← joined-assoc) (f k i t p z .above ks (record { way = w; avoids = o; within-reach = omega arith }) (omega arith))
 
   -- ---- all standbys
 
   abbrev offers : Behind → ℕ → List ℕ → ℕ
-  offers b = visit arcs (offered (q .mesh) (q .main)) b
+  offers b = visit arcs (offered (q .mesh) (q .main) (q .off .last)) b
 
   -- an offer takes the smaller
   offer-cases : (b : Behind) (least : ℕ) (ks : List ℕ) (P : ℕ → Type 0) → P least
-      → (b .metres + metresOf arcs ks ≤ q .mesh .reach → P (min least (keyBy q (b .metres) (b .exposure) ks))) → P (offers b least ks)
+      → ((lastOf noArc ks ≡ q .off .last → ⊥) → b .metres + metresOf arcs ks ≤ q .mesh .reach → P (min least (keyBy q (b .metres) (b .exposure) ks))) → P (offers b least ks)
   unfolding offered
-  offer-cases b least ks P p f = go (leb (along arcs b ks .metres) (q .mesh .reach)) refl
+  offer-cases b least ks P p f = go (eqb (lastOf noArc ks) (q .off .last)) refl (leb (along arcs b ks .metres) (q .mesh .reach)) refl
     where
       key : standbyKey (sharing (q .main) (along arcs b ks .exposure)) (along arcs b ks .metres) ≡ keyBy q (b .metres) (b .exposure) ks
       key = ap₂ standbyKey (ap (sharing (q .main)) (along-exposure arcs b ks)) (along-metres arcs b ks)
 
-      go : (t : Bool) → leb (along arcs b ks .metres) (q .mesh .reach) ≡ t → P (offers b least ks)
-      go true e =
-          rw (e, offered) (subst (λ (k : ℕ). P (min least k)) (sym key) (f (omega (arith, leb-true (along arcs b ks .metres) (q .mesh .reach) e, along-metres arcs b ks))))
-      go false e = rw (e, offered) p
+      go : (s : Bool) → eqb (lastOf noArc ks) (q .off .last) ≡ s → (t : Bool) → leb (along arcs b ks .metres) (q .mesh .reach) ≡ t → P (offers b least ks)
+      go true d t e = rw (d, offered) p
+      go false d true e =
+          rw (d, e, offered)
+          (subst (λ (k : ℕ). P (min least k)) (sym key)
+          (f (eqb-false (lastOf noArc ks) (q .off .last) d) (omega (arith, leb-true (along arcs b ks .metres) (q .mesh .reach) e, along-metres arcs b ks))))
+      go false d false e = rw (d, e, offered) p
 
   -- it only falls
   pub fold-less : (b : Behind) (least : ℕ) (l : List (List ℕ)) → foldl (offers b) least l ≤ least
@@ -116,7 +110,7 @@ module _ (q : Quest) where
   fold-less b least (ks ∷ l) = omega (arith, one, fold-less b (offers b least ks) l)
     where
       one : offers b least ks ≤ least
-      one = offer-cases b least ks (λ x. x ≤ least) (omega arith) (λ h. omega arith)
+      one = offer-cases b least ks (λ x. x ≤ least) (omega arith) (λ ne h. omega arith)
 
   -- from a larger start the same is found, but for the start
   fold-min : (b : Behind) (least top : ℕ) (l : List (List ℕ)) → least ≤ top → foldl (offers b) least l ≡ min least (foldl (offers b) top l)
@@ -125,56 +119,57 @@ module _ (q : Quest) where
   fold-min b least top (ks ∷ l) h = omega (arith, one, fold-less b (offers b top ks) l, fold-min b (offers b least ks) (offers b top ks) l (omega (arith, one)))
     where
       one : offers b least ks ≡ min least (offers b top ks)
-      one = go (leb (along arcs b ks .metres) (q .mesh .reach)) refl
+      one = go (eqb (lastOf noArc ks) (q .off .last)) refl (leb (along arcs b ks .metres) (q .mesh .reach)) refl
         where
-          go : (t : Bool) → leb (along arcs b ks .metres) (q .mesh .reach) ≡ t → offers b least ks ≡ min least (offers b top ks)
-          go true e = rw (e, offered) (omega arith)
-          go false e = rw (e, offered) (omega arith)
+          go : (s : Bool) → eqb (lastOf noArc ks) (q .off .last) ≡ s → (t : Bool) → leb (along arcs b ks .metres) (q .mesh .reach) ≡ t → offers b least ks ≡ min least (offers b top ks)
+          go true d t e = rw (d, offered) (omega arith)
+          go false d true e = rw (d, e, offered) (omega arith)
+          go false d false e = rw (d, e, offered) (omega arith)
 
   pub fold-mono : (b : Behind) {least top : ℕ} (l : List (List ℕ)) → least ≤ top → foldl (offers b) least l ≤ foldl (offers b) top l
   fold-mono b l h = omega (arith, fold-min b _ _ l h)
 
-  fold-above : (b : Behind) (x bound : ℕ) (l : List (List ℕ)) → x ≤ bound → ((ks : List ℕ) → List·Memᴰ ks l → b .metres + metresOf arcs ks ≤ q .mesh .reach → x ≤ keyBy q (b .metres) (b .exposure) ks)
+  fold-above : (b : Behind) (x bound : ℕ) (l : List (List ℕ)) → x ≤ bound
+      → ((ks : List ℕ) → List·Memᴰ ks l → (lastOf noArc ks ≡ q .off .last → ⊥) → b .metres + metresOf arcs ks ≤ q .mesh .reach → x ≤ keyBy q (b .metres) (b .exposure) ks)
       → x ≤ foldl (offers b) bound l
   fold-above b x bound [] h f = h
   fold-above b x bound (ks ∷ l) h f = fold-above b x (offers b bound ks) l one (λ j m. f j (List·Memᴰ·tail m))
     where
       one : x ≤ offers b bound ks
-      one = offer-cases b bound ks (λ y. x ≤ y) h (λ r. omega (arith, f ks (List·Memᴰ·head refl) r))
+      one = offer-cases b bound ks (λ y. x ≤ y) h (λ ne r. omega (arith, f ks (List·Memᴰ·head refl) ne r))
 
   -- nothing that grows from there is below x
-  pub above-all : (b : Behind) (x at bound : ℕ) → ((u : ℕ) → bit (q .banned) u ≤ bit (b .met) u) → ((n : ℕ) → Ahead q n x at (b .metres) (b .exposure)) → x ≤ bound
-      → x ≤ searched (q .mesh) (offered (q .mesh) (q .main)) b at bound
+  pub above-all : (b : Behind) (x at bound : ℕ) → ((u : ℕ) → bit (q .off .nodes) u ≤ bit (b .met) u) → ((n : ℕ) → Ahead q n x at (b .metres) (b .exposure)) → x ≤ bound
+      → x ≤ searched (q .mesh) (offered (q .mesh) (q .main) (q .off .last)) b at bound
   above-all b x at bound f a h =
       fold-above b x bound (onward (q .mesh) b at) h
-      (λ ks m r.
+      (λ ks m ne r.
       let g = grow-out arcs (q .mesh .terminal) _ (b .met) at ks m in
-      a (length ks) .above ks (record { way = grown-way arcs (q .mesh .terminal) g; avoids = grown-avoids arcs (q .mesh .terminal) (q .banned) f g; within-reach = r }) (omega arith))
+      a (length ks) .above ks (record { way = grown-way arcs (q .mesh .terminal) g; avoids = grown-avoids (q .mesh) (q .off) noArc f g ne; within-reach = r }) (omega arith))
 
   -- ---- and from the source
 
   pub none-below-least : {x : ℕ} → NoneBelow q x → leastOf q x ≡ x
   unfolding leastOf
   none-below-least {x} a =
-      let b = behind (with (q .banned) (q .mesh .source)) 0 toNothing in
-      omega (arith, fold-less b x (onward (q .mesh) b (q .mesh .source)), above-all b x (q .mesh .source) x (λ u. omega (arith, bit-with (q .banned) (q .mesh .source) u)) (a .ahead) (omega arith))
+      let b = startBarred (q .mesh) (q .off) in
+      omega (arith, fold-less b x (unbarred (q .mesh) (q .off)), above-all b x (q .mesh .source) x (λ u. omega (arith, bit-with (q .off .nodes) (q .mesh .source) u)) (a .ahead) (omega arith))
 
   pub least-raised : {bound top : ℕ} → bound ≤ top → leastOf q bound ≡ min bound (leastOf q top)
   unfolding leastOf
   least-raised {bound} {top} h =
-      let b = behind (with (q .banned) (q .mesh .source)) 0 toNothing in
-      fold-min b bound top (onward (q .mesh) b (q .mesh .source)) h
+      fold-min (startBarred (q .mesh) (q .off)) bound top (unbarred (q .mesh) (q .off)) h
 
--- true of a core, so true of each main that is exposed to all of it and avoids its nodes
-pub none-below-core : (m : Mesh) (core main : Exposure) (fewer nodes : ℕ) {x y : ℕ} → Inside core main → ((u : ℕ) → bit fewer u ≤ bit nodes u) → y ≤ x
-    → NoneBelow (quest m core fewer) x → NoneBelow (quest m main nodes) y
-none-below-core m core main fewer nodes f g h a = record {
+-- true of a core, so true of each main that is exposed to all of it and bars all that it does
+pub none-below-core : (m : Mesh) (core main : Exposure) (less more : Barred) {x y : ℕ} → Inside core main → Milder m less more → y ≤ x
+    → NoneBelow (quest m core less) x → NoneBelow (quest m main more) y
+none-below-core m core main less more f g h a = record {
   ahead = λ n. record {
     above = λ ks o l.
         let e = joined toNothing (exposureOf (m .arcs) ks) in
         omega (
           arith,
-          a .ahead n .above ks (record { way = o .way; avoids = avoids-fewer (m .arcs) fewer nodes g (o .avoids); within-reach = o .within-reach }) l,
+          a .ahead n .above ks (record { way = o .way; avoids = avoids-milder m g (o .way) (o .avoids); within-reach = o .within-reach }) l,
           standbyKey-mono {m = 0 + metresOf (m .arcs) ks} {m′ = 0 + metresOf (m .arcs) ks} (sharing-mono core e main e f (λ r. omega arith)) (omega arith),
         );
   };

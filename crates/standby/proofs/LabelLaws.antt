@@ -56,7 +56,7 @@ module _ (q : Quest) where
 
   -- nothing on from the nodes met makes a key below x
   pub record Around (n x : ℕ) (b : Behind) : Type 0 where
-    pub back : (u : ℕ) → bit (b .met) u ≡ 1 → bit (q .banned) u ≡ 0 → Ahead q n x u (b .metres) (b .exposure)
+    pub back : (u : ℕ) → bit (b .met) u ≡ 1 → bit (q .off .nodes) u ≡ 0 → Ahead q n x u (b .metres) (b .exposure)
 
   around : {n x at : ℕ} {b : Behind} → Back q n x at b → Ahead q n x at (b .metres) (b .exposure) → Around n x b
   around {n} {x} {at} {b} f a = record {

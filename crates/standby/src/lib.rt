@@ -1,5 +1,6 @@
 // The best standby of a main: the least key, shared count before metres, of all routes, found by a search that leaves out what cannot be better: by the doors, by
 // the lower bounds, and by labels that it leaves at the nodes it has gone on from.
+use bars::Barred;
 use labels::STORE_WORDS;
 use net::Behind;
 use problem::Exposure;
@@ -12,7 +13,7 @@ ghost use Rattle.problem.specs.Routes.{arcAt};
 ghost use Rattle.net.specs.Net.{Net, arcsIn, meshIn};
 ghost use Rattle.net.specs.Search.{behind};
 ghost use Rattle.labels.specs.Labels.{labelWords, Frame};
-ghost use Rattle.standby.specs.Standby.{EveryDoor, mainIn, doorOf, exposedTo, NewlyShared, hopAt, Seeking};
+ghost use Rattle.standby.specs.Standby.{EveryDoor, mainIn, doorOf, lastBarred, exposedTo, NewlyShared, hopAt, Seeking};
 ghost use Rattle.standby.specs.Ahead.{quest, NoneBelow, leastOf};
 ghost use Rattle.standby.specs.Sought.{Sought};
 
@@ -60,8 +61,9 @@ pub fn door(net: &[u64], main: Exposure) -> u64
     least
 }
 
-// A main in words, so that one reference is handed on from call to call: what it is exposed to, and the fewest that it shares with a door.
-pub const MAIN_WORDS: usize = 4;
+// A main in words, so that one reference is handed on from call to call: what it is exposed to, the fewest that it shares with a door, and the arc that its
+// standbys must not end with.
+pub const MAIN_WORDS: usize = 5;
 
 pub const RISKS: usize = 0;
 
@@ -70,6 +72,8 @@ const LOW: usize = 1;
 const HIGH: usize = 2;
 
 pub const DOOR: usize = 3;
+
+pub const LAST: usize = 4;
 
 // The spans that lie behind a search, low and high, handed on by reference.
 const SPAN_WORDS: usize = 2;
@@ -127,7 +131,8 @@ fn look(
 ) -> Hop
     requires { ⌜ Net (now net) × (i < length (arcsIn (now net))) × (metres ≤ mostReach) × (doorOf (now main) ≤ hazards)
         × (shared ≡ sharing (mainIn (now main)) (exposedTo risks (now spans))) ⌝ }
-    ensures { λ r. ⌜ r ≡ hopAt (now (net .entry)) (mainIn (now (main .entry))) (doorOf (now (main .entry))) least (behind met metres (exposedTo risks (now (spans .entry)))) i ⌝ }
+    ensures { λ r. ⌜ r ≡ hopAt (now (net .entry)) (mainIn (now (main .entry))) (doorOf (now (main .entry))) (lastBarred (now (main .entry))) least
+        (behind met metres (exposedTo risks (now (spans .entry)))) i ⌝ }
 {
     let head = net::head(net, i);
     if sets::has(met, head as u8) {
@@ -144,6 +149,9 @@ fn look(
         return Hop::Passed;
     }
     if head == net::terminal(net) {
+        if i == main[LAST] {
+            return Hop::Passed;
+        }
         return Hop::Ends(key);
     }
     let e = exposure::joined(exposed(risks, spans), net::exposure(net, i));
@@ -170,7 +178,8 @@ fn seek(
 ) -> u64
     requires { ⌜ Seeking (now net) (mainIn (now main)) (doorOf (now main)) at metres × (labelWords ≤ length (now store))
         × (shared ≡ sharing (mainIn (now main)) (exposedTo risks (now spans))) ⌝ }
-    ensures { λ r. ⌜ Sought (now (net .entry)) (mainIn (now (main .entry))) at (behind met metres (exposedTo risks (now (spans .entry)))) bound (now (store .entry)) (now (store .exit)) r ⌝ }
+    ensures { λ r. ⌜ Sought (now (net .entry)) (mainIn (now (main .entry))) (lastBarred (now (main .entry))) at
+        (behind met metres (exposedTo risks (now (spans .entry)))) bound (now (store .entry)) (now (store .exit)) r ⌝ }
 {
     let n = net::arc_count(net);
     let mut least = bound;
@@ -211,24 +220,24 @@ fn seek(
     least
 }
 
-// The least of `bound` and the keys of all standbys of a main that is exposed to this, that meet none of these nodes. What the store held does not matter.
+// The least of `bound` and the keys of all standbys of a main that is exposed to this, that keep off what is barred. What the store held does not matter.
 pub fn search(
     net: &[u64; net::SIZE],
     store: &mut [u64; STORE_WORDS],
     main: Exposure,
     door: u64,
-    nodes: u64,
+    off: Barred,
     bound: u64,
 ) -> u64
     requires { ⌜ Net (now net) × (labelWords ≤ length (now store)) × EveryDoor (meshIn (now net)) main door ⌝ }
-    ensures least { λ r. ⌜ r ≡ leastOf (quest (meshIn (now (net .entry))) main nodes) bound ⌝ }
-    ensures below { λ r. ⌜ NoneBelow (quest (meshIn (now (net .entry))) main nodes) r ⌝ }
+    ensures least { λ r. ⌜ r ≡ leastOf (quest (meshIn (now (net .entry))) main off) bound ⌝ }
+    ensures below { λ r. ⌜ NoneBelow (quest (meshIn (now (net .entry))) main off) r ⌝ }
     ensures frame { λ _. ⌜ Frame (now (store .entry)) (now (store .exit)) ⌝ }
 {
     labels::clear(store);
     let source = net::source(net);
-    let met = sets::with(nodes, source as u8);
-    let words = [main.risks, main.low, main.high, door];
+    let met = sets::with(off.nodes, source as u8);
+    let words = [main.risks, main.low, main.high, door, off.last];
     let none = [0; SPAN_WORDS];
     seek(net, store, &words, source, met, 0, 0, &none, 0, bound)
 }

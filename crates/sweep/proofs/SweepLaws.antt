@@ -13,8 +13,8 @@ use Rattle.problem.specs.Table.{lastNode}
 use Rattle.problem.specs.Routes.{Mesh, arcAt, metresOf, sprout, grow, paths}
 use Rattle.problem.proofs.GrowthLaws.{fold-idle, grow-way, leftFrom}
 use Rattle.net.specs.declared.Behind.{Behind}
-use Rattle.net.specs.Net.{firstFrom, lowerFrom, wordAt, nextOf, arcsIn, meshIn, Net}
-use Rattle.net.specs.Search.{start, onto, along, visit, onward, searched}
+use Rattle.net.specs.Net.{firstFrom, lowerFrom, wordAt, nextOf, arcsIn, meshIn, apartOnly, Net}
+use Rattle.net.specs.Search.{start, onto, along, lastOf, noArc, visit, onward, searched}
 use Rattle.net.proofs.SearchLaws.{along-metres, Left, over, Place, place-first, left-first, left-last, place-next, next-past, head-node, fewer, left-met, left-idle, left-there, left-onward, listFrom, list-first, list-next}
 use Rattle.look.specs.declared.Leg.the-variants.{Met, Past, Ends, Leads}
 use Rattle.look.specs.Look.{legAt}
@@ -27,21 +27,21 @@ use Rattle.sweep.specs.Sweep.{ended, met, Sweeps, SweptAll}
 
 -- ---- what meeting a route does
 
-module _ (m : Mesh) (w : Window) where
-  met-far : (t : Tally) (e : Behind) → w .hi < e .metres → met m w t e ≡ t
+module _ (only : Bool) (m : Mesh) (w : Window) where
+  met-far : (t : Tally) (e : Behind) (k : ℕ) → w .hi < e .metres → met only m w t e k ≡ t
   unfolding met
-  met-far t e h = rw (lt-ltb (w .hi) (e .metres) h)
+  met-far t e k h = rw (lt-ltb (w .hi) (e .metres) h)
 
-  met-ends : (t : Tally) (e : Behind) → e .metres ≤ w .hi → met m w t e ≡ ended m w e t
+  met-ends : (t : Tally) (e : Behind) (k : ℕ) → e .metres ≤ w .hi → met only m w t e k ≡ ended only m w e k t
   unfolding met
-  met-ends t e h = rw (le-ltb (w .hi) (e .metres) h)
+  met-ends t e k h = rw (le-ltb (w .hi) (e .metres) h)
 
   -- past the cap nothing changes any more
-  met-over : (t : Tally) (e : Behind) → t .over ≡ true → met m w t e ≡ t
+  met-over : (t : Tally) (e : Behind) (k : ℕ) → t .over ≡ true → met only m w t e k ≡ t
   unfolding met ended tried
-  met-over t e o = go (ltb (w .hi) (e .metres)) refl (ltb (e .metres) (w .lo)) refl
+  met-over t e k o = go (ltb (w .hi) (e .metres)) refl (ltb (e .metres) (w .lo)) refl
     where
-      go : (a : Bool) → ltb (w .hi) (e .metres) ≡ a → (b : Bool) → ltb (e .metres) (w .lo) ≡ b → met m w t e ≡ t
+      go : (a : Bool) → ltb (w .hi) (e .metres) ≡ a → (b : Bool) → ltb (e .metres) (w .lo) ≡ b → met only m w t e k ≡ t
       go true p b q = rw (p, met)
       go false p true q = rw (p, q, met)
       go false p false q = rw (p, q, o, met)
@@ -52,8 +52,11 @@ module _ (net : List ℕ) (w : Window) (at : ℕ) (b : Behind) where
   abbrev m : Mesh
   m = meshIn net
 
-  abbrev end : Tally → Behind → Tally
-  end = met m w
+  abbrev only : Bool
+  only = apartOnly net
+
+  abbrev end : Tally → Behind → ℕ → Tally
+  end = met only m w
 
   -- the sweep stands at arc i of the chain: what is left makes of the tally so far what is wanted, and what lies past the window's end is cut off or still ahead
   pub record Rest (s r : Swept) (i : ℕ) : Type 0 where
@@ -95,7 +98,7 @@ module _ (net : List ℕ) (w : Window) (at : ℕ) (b : Behind) where
     unfolding leftFrom
     rest-over {s} {r} {i} rest e =
         record {
-          tally-is = sym (fold-idle (visit (arcsIn net) end b) (r .tally) (listFrom net end b at i) (λ ks x. met-over m w (r .tally) (along (arcsIn net) b ks) e)) ∙ rest .left;
+          tally-is = sym (fold-idle (visit (arcsIn net) end b) (r .tally) (listFrom net end b at i) (λ ks x. met-over only m w (r .tally) (along (arcsIn net) b ks) (lastOf noArc ks) e)) ∙ rest .left;
           cut-falls = rest .cut-falls;
           cut-past = rest .cut-past;
           none-between = λ o. absurd (true≢false (sym e ∙ o));
@@ -153,7 +156,7 @@ module _ (net : List ℕ) (w : Window) (at : ℕ) (b : Behind) where
       rest-cut {to} e r′ same cut =
           let p = past-is (m .terminal) (w .hi) lower b (arcAt (arcsIn net) i) e in
           turn r′
-          (left-idle net end b at words (rest .place) l (r .tally) (λ ks x f. met-far m w (r .tally) _ (omega (arith, p .past-end, along-metres (arcsIn net) (over net end b at i) ks)))
+          (left-idle net end b at words (rest .place) l (r .tally) (λ ks x f k. met-far only m w (r .tally) _ k (omega (arith, p .past-end, along-metres (arcsIn net) (over net end b at i) ks)))
           ∙ ap (Left net end b at next) (sym same))
           (omega arith)
           (λ h. omega (arith, p .past-end, p .is))
@@ -164,7 +167,7 @@ module _ (net : List ℕ) (w : Window) (at : ℕ) (b : Behind) where
       pub ends-in : {e : Behind} → legAt net (w .hi) b i ≡ Ends e → e .metres ≤ w .hi
       ends-in {e} q = let o = ends-is (m .terminal) (w .hi) lower b (arcAt (arcsIn net) i) q in omega (arith, ap (λ (x : Behind). x .metres) (o .is), o .inside)
 
-      pub rest-ends : {e : Behind} → legAt net (w .hi) b i ≡ Ends e → (r′ : Swept) → r′ .tally ≡ ended m w e (r .tally) → r′ .cut ≡ r .cut → Rest s r′ (nextOf net i)
+      pub rest-ends : {e : Behind} → legAt net (w .hi) b i ≡ Ends e → (r′ : Swept) → r′ .tally ≡ ended only m w e i (r .tally) → r′ .cut ≡ r .cut → Rest s r′ (nextOf net i)
       unfolding metresOf grow
       rest-ends {e} q r′ met-it cut = go (ends-is (m .terminal) (w .hi) lower b (arcAt (arcsIn net) i) q)
         where
@@ -176,7 +179,7 @@ module _ (net : List ℕ) (w : Window) (at : ℕ) (b : Behind) where
           go o =
               turn r′
               (left-there net end b at words (rest .place) l (r .tally) (o .new) (o .at-terminal)
-              ∙ ap (Left net end b at next) (met-ends m w (r .tally) (onto b (arcAt (arcsIn net) i)) (omega (arith, o .inside)) ∙ ap (λ (x : Behind). ended m w x (r .tally)) (sym (o .is)) ∙ sym met-it))
+              ∙ ap (Left net end b at next) (met-ends only m w (r .tally) (onto b (arcAt (arcsIn net) i)) i (omega (arith, o .inside)) ∙ ap (λ (x : Behind). ended only m w x i (r .tally)) (sym (o .is)) ∙ sym met-it))
               (omega arith)
               (λ h. omega arith)
               (λ y more z x h. absurd (omega (arith, o .inside, ap (metresOf (arcsIn net)) (alone more (unmet 32 (b .met)) (o .at-terminal) x))))
@@ -211,16 +214,16 @@ module _ (net : List ℕ) (w : Window) (at : ℕ) (b : Behind) where
                 fewer-nodes = fewer net end b at words (rest .place) l (o .new) ∙ ap (λ (x : Behind). suc (unmet 32 (x .met))) (sym (o .is));
                 gives = λ r′ sw.
                     turn r′
-                    (left-onward net end b at words (rest .place) l (r .tally) (o .new) ∙ ap (Left net end b at next) (same-search (o .head-is) (o .is) ∙ sym (sw .tally-is)))
+                    (left-onward net end b at words (rest .place) l (r .tally) (o .new) (o .goes-on) ∙ ap (Left net end b at next) (same-search (o .head-is) (o .is) ∙ sym (sw .tally-is)))
                     (sw .cut-falls) (sw .cut-past)
                     (λ y more z x f. omega (arith, length-is, sw .none-between y more (moved (o .new) (o .head-is) (o .is) x) (omega (arith, length-is))));
               }
 
 -- past the cap there is nothing to sweep for
-pub over-all : (m : Mesh) (w : Window) (t : Tally) (cut : ℕ) → w .hi < cut → t .over ≡ true → SweptAll m w t (record { tally = t; cut = cut })
-over-all m w t cut past o =
+pub over-all : (only : Bool) (m : Mesh) (w : Window) (t : Tally) (cut : ℕ) → w .hi < cut → t .over ≡ true → SweptAll only m w t (record { tally = t; cut = cut })
+over-all only m w t cut past o =
     record {
-      tally-is = sym (fold-idle (visit (m .arcs) (met m w) (start m)) t (paths m) (λ ks x. met-over m w t (along (m .arcs) (start m) ks) o));
+      tally-is = sym (fold-idle (visit (m .arcs) (met only m w) (start m)) t (paths m) (λ ks x. met-over only m w t (along (m .arcs) (start m) ks) (lastOf noArc ks) o));
       cut-past = past;
       none-between = λ n. absurd (true≢false (sym o ∙ n));
     }

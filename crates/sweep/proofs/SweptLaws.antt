@@ -14,14 +14,14 @@ use Rattle.problem.specs.Routes.{Mesh, paths, Route, routeOf, routesFrom, withi
 use Rattle.problem.proofs.GrowthLaws.{fold-same}
 use Rattle.net.specs.Search.{start, along, visit}
 use Rattle.tally.specs.declared.Tally.{Tally}
-use Rattle.mains.proofs.TallyLaws.{end-metres, tried-route, after, best-first, try, tries}
+use Rattle.mains.proofs.TallyLaws.{main-metres, tried-route, after, best-first, try, tries}
 use Rattle.sweep.specs.declared.Window.{Window}
 use Rattle.sweep.specs.Sweep.{ended, met, sweptTally}
 use Rattle.sweep.proofs.WindowMains.{between, mains, window-count}
 
-module _ (m : Mesh) (w : Window) where
+module _ (only : Bool) (m : Mesh) (w : Window) where
   -- a route's end tries it as a main where its length lies in the window
-  met-is : (t : Tally) (ks : List ℕ) → visit (m .arcs) (met m w) (start m) t ks ≡ (if between (w .lo) (w .hi) (routeOf (m .arcs) ks) then try m (w .cap) t (routeOf (m .arcs) ks) else t)
+  met-is : (t : Tally) (ks : List ℕ) → visit (m .arcs) (met only m w) (start m) t ks ≡ (if between (w .lo) (w .hi) (routeOf (m .arcs) ks) then try only m (w .cap) t (routeOf (m .arcs) ks) else t)
   unfolding met ended between
   met-is t ks = go (ltb length-of (w .lo)) refl (ltb (w .hi) length-of) refl
     where
@@ -29,7 +29,7 @@ module _ (m : Mesh) (w : Window) where
       length-of = routeOf (m .arcs) ks .metres
 
       same : along (m .arcs) (start m) ks .metres ≡ routeOf (m .arcs) ks .metres
-      same = end-metres m ks
+      same = main-metres m ks
 
       short : {a : Bool} → ltb length-of (w .lo) ≡ a → ltb (along (m .arcs) (start m) ks .metres) (w .lo) ≡ a
       short p = ap (λ (x : ℕ). ltb x (w .lo)) same ∙ p
@@ -38,38 +38,38 @@ module _ (m : Mesh) (w : Window) where
       far q = ap (ltb (w .hi)) same ∙ q
 
       go : (a : Bool) → ltb length-of (w .lo) ≡ a → (b : Bool) → ltb (w .hi) length-of ≡ b
-          → visit (m .arcs) (met m w) (start m) t ks ≡ (if between (w .lo) (w .hi) (routeOf (m .arcs) ks) then try m (w .cap) t (routeOf (m .arcs) ks) else t)
+          → visit (m .arcs) (met only m w) (start m) t ks ≡ (if between (w .lo) (w .hi) (routeOf (m .arcs) ks) then try only m (w .cap) t (routeOf (m .arcs) ks) else t)
       go true p true q = rw (far q, lt-leb (w .lo) length-of (ltb-true _ _ p))
       go true p false q = rw (far q, short p, lt-leb (w .lo) length-of (ltb-true _ _ p))
       go false p true q = rw (far q, le-leb (w .lo) length-of (ltb-false _ _ p), lt-leb length-of (w .hi) (ltb-true _ _ q))
-      go false p false q = rw (far q, short p, le-leb (w .lo) length-of (ltb-false _ _ p), le-leb length-of (w .hi) (ltb-false _ _ q)) (tried-route m (w .cap) t ks)
+      go false p false q = rw (far q, short p, le-leb (w .lo) length-of (ltb-false _ _ p), le-leb length-of (w .hi) (ltb-false _ _ q)) (tried-route only m (w .cap) t ks)
 
-  swept-is : (t : Tally) → t .over ≡ false → sweptTally m w t ≡ after m (ltb (w .cap - t .ranked) (length (mains m w))) t (take (w .cap - t .ranked) (mains m w))
+  swept-is : (t : Tally) → t .over ≡ false → sweptTally only m w t ≡ after only m (ltb (w .cap - t .ranked) (length (mains m w))) t (take (w .cap - t .ranked) (mains m w))
   unfolding routesFrom
   swept-is t o =
-      fold-same _ _ met-is t (paths m)
-      ∙ sym (foldl-map (routeOf (m .arcs)) (λ (u : Tally) (r : Route). if between (w .lo) (w .hi) r then try m (w .cap) u r else u) (paths m) t)
-      ∙ fold-keep (between (w .lo) (w .hi)) (try m (w .cap)) t (map (routeOf (m .arcs)) (paths m)) ∙ tries m (w .cap) t (mains m w) o
+      fold-same _ _ t (paths m) (λ u ks x. met-is u ks)
+      ∙ sym (foldl-map (routeOf (m .arcs)) (λ (u : Tally) (r : Route). if between (w .lo) (w .hi) r then try only m (w .cap) u r else u) (paths m) t)
+      ∙ fold-keep (between (w .lo) (w .hi)) (try only m (w .cap)) t (map (routeOf (m .arcs)) (paths m)) ∙ tries only m (w .cap) t (mains m w) o
 
-  module _ (t r : Tally) (o : t .over ≡ false) (e : r ≡ sweptTally m w t) where
+  module _ (t r : Tally) (o : t .over ≡ false) (e : r ≡ sweptTally only m w t) where
     abbrev room : ℕ
     room = w .cap - t .ranked
 
     abbrev ms : List Route
     ms = mains m w
 
-    is : r ≡ after m (ltb room (length ms)) t (take room ms)
+    is : r ≡ after only m (ltb room (length ms)) t (take room ms)
     is = e ∙ swept-is t o
 
     -- a sweep that did not give up took all mains
-    pub swept-all : r .over ≡ false → r ≡ after m false t ms
+    pub swept-all : r .over ≡ false → r ≡ after only m false t ms
     unfolding after
     swept-all f =
         let all : ltb room (length ms) ≡ false = sym (ap (λ (u : Tally). u .over) is) ∙ f in
         is ∙ rw (all, take-all room ms (ltb-false room (length ms) all))
 
     -- one that gave up took those that there was room for
-    pub swept-some : r .over ≡ true → (room < length ms) × (r ≡ after m true t (take room ms))
+    pub swept-some : r .over ≡ true → (room < length ms) × (r ≡ after only m true t (take room ms))
     unfolding after
     swept-some f =
         let more : ltb room (length ms) ≡ true = sym (ap (λ (u : Tally). u .over) is) ∙ f in
@@ -82,7 +82,7 @@ module _ (m : Mesh) (w : Window) where
     -- the best key only falls: where it is 0 a sweep only counts
     pub swept-best : r .best ≤ t .best
     unfolding after
-    swept-best = rw (ap (λ (u : Tally). u .best) is) (best-first m (t .best) (take room ms) .from-start)
+    swept-best = rw (ap (λ (u : Tally). u .best) is) (best-first only m (t .best) (take room ms) .from-start)
 
     -- ---- what is counted
 

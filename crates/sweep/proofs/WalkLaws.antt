@@ -14,7 +14,7 @@ use Rattle.problem.specs.Table.{mostReach}
 use Rattle.problem.specs.Exposures.{toNothing}
 use Rattle.problem.specs.Routes.{Mesh}
 use Rattle.net.specs.declared.Behind.{Behind}
-use Rattle.net.specs.Net.{firstFrom, wordAt, nextOf, arcsIn, meshIn, Net}
+use Rattle.net.specs.Net.{firstFrom, wordAt, nextOf, arcsIn, meshIn, apartOnly, Net}
 use Rattle.net.specs.Search.{behind, searched}
 use Rattle.net.proofs.SearchLaws.{from-source, source-paths}
 use Rattle.look.specs.declared.Leg.{Leg}
@@ -68,15 +68,15 @@ tally-written t flag e {run} =
     run
 
 -- a route's end: the tally that it makes is put into the words
-pub route-met : (m : Mesh) (route : Behind) {run : List ℕ} → UnderWay run → (t : Tally) (flag : ℕ) → ltb 0 flag ≡ t .over
-    → t ≡ ended m (windowIn run) route (record { ranked = wordAt run rankedAt; last = wordAt run lastAt; best = wordAt run bestAt; over = false })
-    → Meets m route run (tallyWritten run t flag)
-route-met m route {run} u t flag o is =
+pub route-met : (only : Bool) (m : Mesh) (route : Behind) (last : ℕ) {run : List ℕ} → UnderWay run → (t : Tally) (flag : ℕ) → ltb 0 flag ≡ t .over
+    → t ≡ ended only m (windowIn run) route last (record { ranked = wordAt run rankedAt; last = wordAt run lastAt; best = wordAt run bestAt; over = false })
+    → Meets only m route last run (tallyWritten run t flag)
+route-met only m route last {run} u t flag o is =
     let w = tally-written t flag o (u .size) in
     record { kept = w .0; tally-is = w .1 ∙ is ∙ ap from (sym (u .not-over)); cut-same = w .2 }
   where
     from : Bool → Tally
-    from o = ended m (windowIn run) route (record { ranked = wordAt run rankedAt; last = wordAt run lastAt; best = wordAt run bestAt; over = o })
+    from o = ended only m (windowIn run) route last (record { ranked = wordAt run rankedAt; last = wordAt run lastAt; best = wordAt run bestAt; over = o })
 
 -- ---- arc by arc
 
@@ -143,13 +143,13 @@ module _ {net : List ℕ} {at : ℕ} {b : Behind} {before run : List ℕ} {i : �
   pub route-in-reach : {e : Behind} → g ≡ Ends e → e .metres ≤ mostReach
   route-in-reach e = omega (arith, ends-in net (windowIn before) at b words (h .walking .rest) (h .inside) not-over (leg e), h .start .hi-range)
 
-  pub walking-ends : {e : Behind} → g ≡ Ends e → {run′ : List ℕ} → Meets (meshIn net) e run run′ → Walking net at b before run′ (nextOf net i)
+  pub walking-ends : {e : Behind} → g ≡ Ends e → {run′ : List ℕ} → Meets (apartOnly net) (meshIn net) e i run run′ → Walking net at b before run′ (nextOf net i)
   walking-ends {e} q {run′} x =
       record {
         kept = still-kept (x .kept);
         rest =
             rest-ends net (windowIn before) at b words (h .walking .rest) (h .inside) not-over (leg q) (sweptIn run′)
-            (x .tally-is ∙ ap (λ (w : Window). ended (meshIn net) w e (sweptIn run .tally)) window-same) (x .cut-same);
+            (x .tally-is ∙ ap (λ (w : Window). ended (apartOnly net) (meshIn net) w e i (sweptIn run .tally)) window-same) (x .cut-same);
       }
 
   -- what the walk from the arc's head needs and gives
@@ -181,8 +181,8 @@ runOf w t cut = w .lo ∷ w .hi ∷ w .cap ∷ t .ranked ∷ t .last ∷ t .best
 
 -- a walk from the source, with nothing behind it, sweeps all paths
 pub walk-sweeps : {net : List ℕ} → Net net → (w : Window) (t : Tally) (cut : ℕ) {at seen : ℕ} {e : Exposure} {r : Swept} {after : List ℕ} → w .hi < cut → t .over ≡ false
-    → at ≡ meshIn net .source → seen ≡ with 0 at → e ≡ toNothing → Walks net at (behind seen 0 e) (runOf w t cut) after → r ≡ sweptIn after → SweptAll (meshIn net) w t r
-walk-sweeps {net} words w t cut {at} {seen} {e} {r} {after} past over a b n k q = subst (SweptAll (meshIn net) w t) (sym q) swept
+    → at ≡ meshIn net .source → seen ≡ with 0 at → e ≡ toNothing → Walks net at (behind seen 0 e) (runOf w t cut) after → r ≡ sweptIn after → SweptAll (apartOnly net) (meshIn net) w t r
+walk-sweeps {net} words w t cut {at} {seen} {e} {r} {after} past over a b n k q = subst (SweptAll (apartOnly net) (meshIn net) w t) (sym q) swept
   where
     sw : Sweeps net w at (behind seen 0 e) (sweptIn (runOf w t cut)) (sweptIn after)
     sw = k .sweeps
@@ -190,10 +190,10 @@ walk-sweeps {net} words w t cut {at} {seen} {e} {r} {after} past over a b n k q 
     read : sweptIn (runOf w t cut) .tally ≡ t
     read = ap (λ (o : Bool). record { ranked = t .ranked; last = t .last; best = t .best; over = o }) (sym over)
 
-    swept : SweptAll (meshIn net) w t (sweptIn after)
+    swept : SweptAll (apartOnly net) (meshIn net) w t (sweptIn after)
     swept =
         record {
-          tally-is = from-source net words (met (meshIn net) w) t a b n (sw .tally-is ∙ ap (searched (meshIn net) (met (meshIn net) w) (behind seen 0 e) at) read);
+          tally-is = from-source net words (met (apartOnly net) (meshIn net) w) t a b n (sw .tally-is ∙ ap (searched (meshIn net) (met (apartOnly net) (meshIn net) w) (behind seen 0 e) at) read);
           cut-past = sw .cut-past past;
           none-between = λ o ks x h. omega (arith, sw .none-between o ks (subst (λ (l : List (List ℕ)). List·Memᴰ ks l) (sym (source-paths net words 0 e a b)) x) (omega arith));
         }

@@ -1,6 +1,6 @@
 -- A sweep under way in eight words: where its window, its tally and its cut stand, and what the steps of a walk make of them. Assumes nothing.
 use Prim.Native.Nat.{ℕ, min}
-use mathlib.Core.Bool.{false}
+use mathlib.Core.Bool.{Bool, false}
 use mathlib.Core.List.{List}
 use mathlib.Core.Path.{_≡_}
 use lib.Dec.{ltb}
@@ -66,10 +66,10 @@ pub record Cuts (to : ℕ) (before after : List ℕ) : Type 0 where
   pub tally-same : sweptIn after .tally ≡ sweptIn before .tally
   pub cut-is : wordAt after cutAt ≡ min (wordAt before cutAt) to
 
--- a route ended, no longer than the window's end
-pub record Meets (m : Mesh) (route : Behind) (before after : List ℕ) : Type 0 where
+-- a route ended with arc `last`, no longer than the window's end
+pub record Meets (only : Bool) (m : Mesh) (route : Behind) (last : ℕ) (before after : List ℕ) : Type 0 where
   pub kept : Kept before after
-  pub tally-is : sweptIn after .tally ≡ ended m (windowIn before) route (sweptIn before .tally)
+  pub tally-is : sweptIn after .tally ≡ ended only m (windowIn before) route last (sweptIn before .tally)
   pub cut-same : wordAt after cutAt ≡ wordAt before cutAt
 
 -- all that grows from a node was swept

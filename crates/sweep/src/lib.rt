@@ -9,7 +9,7 @@ ghost use Prim.Native.Nat.{_≤_};
 ghost use lib.Dec.{ltb};
 ghost use lib.ListN.{length};
 ghost use Rattle.problem.specs.Table.{mostReach};
-ghost use Rattle.net.specs.Net.{Net, wordAt, meshIn};
+ghost use Rattle.net.specs.Net.{Net, wordAt, meshIn, apartOnly};
 ghost use Rattle.net.specs.Search.{behind};
 ghost use Rattle.cores.specs.Cores.{Stored};
 ghost use Rattle.sweep.specs.Sweep.{ended, Sweeping, SweptAll};
@@ -28,22 +28,23 @@ pub struct Swept {
     pub cut: u64,
 }
 
-// The tally after a route ended within the window's end, with `route` behind it.
+// The tally after a route ended with arc `last` within the window's end, with `route` behind it.
 fn end_route(
     net: &[u64; net::SIZE],
     store: &mut [u64; cores::OWN_WORDS],
     w: Window,
     route: Behind,
+    last: u64,
     t: Tally,
 ) -> Tally
     requires { ⌜ Net (now net) × (route .metres ≤ mostReach) × Stored (now net) (now store) ⌝ }
-    ensures ended { λ r. ⌜ r ≡ ended (meshIn (now (net .entry))) w route t ⌝ }
+    ensures ended { λ r. ⌜ r ≡ ended (apartOnly (now (net .entry))) (meshIn (now (net .entry))) w route last t ⌝ }
     ensures stored { λ _. ⌜ Stored (now (net .entry)) (now (store .exit)) ⌝ }
 {
     if route.metres < w.lo {
         return t;
     }
-    mains::try_main(net, store, w.cap, route, t)
+    mains::try_main(net, store, w.cap, route, last, t)
 }
 
 // A sweep under way in words, the window, the tally and the cut, so that one reference is handed on from call to call and no struct is copied.
@@ -85,15 +86,16 @@ fn cut_at(run: &mut [u64; RUN_WORDS], to: u64)
     }
 }
 
-// A route ended within the window's end, with `route` behind it.
+// A route ended with arc `last` within the window's end, with `route` behind it.
 fn meet_route(
     net: &[u64; net::SIZE],
     run: &mut [u64; RUN_WORDS],
     store: &mut [u64; cores::OWN_WORDS],
     route: Behind,
+    last: u64,
 )
     requires { ⌜ Net (now net) × (route .metres ≤ mostReach) × UnderWay (now run) × Stored (now net) (now store) ⌝ }
-    ensures meets { λ _. ⌜ Meets (meshIn (now (net .entry))) route (now (run .entry)) (now (run .exit)) ⌝ }
+    ensures meets { λ _. ⌜ Meets (apartOnly (now (net .entry))) (meshIn (now (net .entry))) route last (now (run .entry)) (now (run .exit)) ⌝ }
     ensures stored { λ _. ⌜ Stored (now (net .entry)) (now (store .exit)) ⌝ }
 {
     let w = Window {
@@ -107,7 +109,7 @@ fn meet_route(
         best: run[BEST],
         over: false,
     };
-    let u = end_route(net, store, w, route, t);
+    let u = end_route(net, store, w, route, last, t);
     run[RANKED] = u.ranked;
     run[LAST] = u.last;
     run[BEST] = u.best;
@@ -146,7 +148,7 @@ fn walk(
                 cut_at(run, to);
             }
             Leg::Ends(route) => {
-                meet_route(net, run, store, route);
+                meet_route(net, run, store, route, k);
                 if 0 < run[OVER] {
                     return;
                 }
@@ -194,7 +196,7 @@ pub fn sweep(
     t: Tally,
 ) -> Swept
     requires { ⌜ Net (now net) × (w .hi ≤ meshIn (now net) .reach) × Stored (now net) (now store) ⌝ }
-    ensures swept { λ r. ⌜ SweptAll (meshIn (now (net .entry))) w t r ⌝ }
+    ensures swept { λ r. ⌜ SweptAll (apartOnly (now (net .entry))) (meshIn (now (net .entry))) w t r ⌝ }
     ensures stored { λ _. ⌜ Stored (now (net .entry)) (now (store .exit)) ⌝ }
 {
     if t.over {

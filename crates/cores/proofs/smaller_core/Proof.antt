@@ -3,6 +3,8 @@ use Prim.Native.Nat.{_-_, _≤_}
 use native.Mathlib.Omega.{arith}
 use Rattle.problem.specs.Table.{hazards}
 use Rattle.net.specs.Net.{meshIn}
+use Rattle.net.specs.Search.{noArc}
+use Rattle.bars.specs.Bars.{barred}
 use Rattle.standby.specs.Ahead.{quest, NoneBelow}
 use Rattle.cores.specs.Cores.{CoresKept}
 use Rattle.cores.proofs.CoreLaws.{kept-same, kept-then}
@@ -10,7 +12,7 @@ use Rattle.cores.proofs.smaller_core.Statement.{statement}
 use Rattle.cores.proofs.smaller_core.Tie as tie
 
 abbrev Inv-loop : tie.InvT-loop
-Inv-loop net store₀ nodes bound core₀ r₀ store core r = (r ≤ hazards) × NoneBelow (quest (meshIn net) core nodes) bound × CoresKept store₀ store
+Inv-loop net store₀ nodes bound core₀ r₀ store core r = (r ≤ hazards) × NoneBelow (quest (meshIn net) core (barred nodes noArc)) bound × CoresKept store₀ store
 
 abbrev μ-loop : tie.MeasureT-loop
 μ-loop net store₀ nodes bound core₀ r₀ store core r = hazards - r

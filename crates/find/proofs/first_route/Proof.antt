@@ -1,11 +1,11 @@
--- `find::first_route` meets its contract: no label is left, and from the source, with nothing behind it, the search goes over all there is (`first-outcome`);
--- it leaves the store true. Assumes nothing.
+-- `find::first_route` meets its contract: no label is left, and from the source, with only barred nodes met besides it, the search goes over all there is
+-- (`first-outcome`); it leaves the store true. Assumes nothing.
 use mathlib.Core.Path.{_≡_, refl}
 use Rattle.problem.specs.declared.Exposure.{Exposure}
 use Rattle.problem.specs.Exposures.{toNothing}
 use Rattle.net.specs.Net.{meshIn}
 use Rattle.find.proofs.TrailLaws.{trails-none, stored-cleared}
-use Rattle.find.proofs.OutcomeLaws.{ready-first, known-after, first-outcome}
+use Rattle.find.proofs.OutcomeLaws.{ready-first, known-after, track-known, first-outcome}
 use borrow.Author.Needs.{needs}
 use Rattle.find.proofs.first_route.Statement.{statement}
 use Rattle.find.proofs.first_route.Tie as tie
@@ -41,9 +41,14 @@ returns c =
     let r = c .before .before .before .before .before in
     let w = r .before in
     let s = w .before .before .before .before .before in
-    let t = c .track-in in (
+    let net = s .args .net .now in
+    let t = c .track-in in
+    let at = w .before .source .ensures .0 in (
       t .ensures .fit,
-      (first-outcome (s .args .net .now) (s .pre .0) (r .run-for .ensures) (w .before .source .ensures .0) (w .with .ensures) none (e .0) (t .result) (t .ensures), e .1 .0),
+      (
+        first-outcome net (s .pre .0) (r .run-for .ensures) at (w .with .ensures) none (e .0) (t .result) (t .ensures),
+        (track-known net (s .pre .0) (r .run-for .ensures) at (w .with .ensures) none (e .0) (t .result) (t .ensures), e .1 .0),
+      ),
     )
 
 pub first-route-spec : {M : Type 1} → statement M

@@ -16,7 +16,7 @@ returns c =
     let w = c .before .args .want in
     record {
       size = refl;
-      want = ap (λ (b : Bool). record { metres = w .metres; key = w .key; main = w .main; as_main = b }) (byte-said (w .as_main));
+      want = ap (λ (b : Bool). record { metres = w .metres; key = w .key; main = w .main; off = w .off; as_main = b }) (byte-said (w .as_main));
       none-passed = refl;
       none-yet = refl;
     }
@@ -25,6 +25,8 @@ pub run-for-spec : {M : Type 1} → statement M
 run-for-spec =
     tie.close
     (tie.spec
+    (λ c. search needs)
+    (λ c. search needs)
     (λ c. search needs)
     (λ c. search needs)
     (λ c. search needs)

@@ -19,8 +19,8 @@ use Rattle.net.specs.Net.{arcsIn, wordAt, lowerFrom, meshIn}
 use Rattle.net.specs.Search.{behind}
 use Rattle.net.proofs.SearchLaws.{has-met, has-not-met, onto-read}
 use Rattle.standby.specs.declared.Hop.the-variants.{Ends, Leads}
-use Rattle.standby.specs.Standby.{mainIn, doorOf, keyOver}
-use Rattle.standby.proofs.HopLaws.{Opens, hop-met, hop-far, hop-no-better, hop-ends, hop-leads}
+use Rattle.standby.specs.Standby.{mainIn, doorOf, lastBarred, keyOver}
+use Rattle.standby.proofs.HopLaws.{Opens, hop-met, hop-far, hop-no-better, hop-barred, hop-ends, hop-leads}
 use Rattle.plain.specs.Plain.{byRisks}
 use Rattle.plain.proofs.PlainLaws.{joined-plain, sharing-plain}
 use Rattle.plain.proofs.look.Statement.{statement}
@@ -48,6 +48,9 @@ main l = mainIn (start l .args .main .now)
 
 abbrev door : tie.After-lower → ℕ
 door l = doorOf (start l .args .main .now)
+
+abbrev last : tie.After-lower → ℕ
+last l = lastBarred (start l .args .main .now)
 
 head-is : (l : tie.After-lower) → l .before .before .before .before .head .result ≡ arc l .head
 head-is l = l .before .before .before .before .head .ensures .0
@@ -90,7 +93,7 @@ reached k =
     omega (arith, length-is l, f .if2 .left, f .before .reach .ensures .0)
 
 opens : (k : tie.After-standby-key) → let l = bounded k in k .standby-key .result < start l .args .least
-    → Opens (meshIn (net l)) (lower l) (main l) (door l) (start l .args .least) (passed l) (arc l)
+    → Opens (meshIn (net l)) (lower l) (main l) (door l) (last l) (start l .args .least) (passed l) (start l .args .i) (arc l)
 opens k b = record { new = new (bounded k); in-reach = reached k; better = omega (arith, key-is k) }
 
 -- ---- what it says
@@ -99,29 +102,46 @@ met-before : tie.Need-returns
 met-before c =
     let s = c .before .before .before .before in
     let h = c .before in
-    sym (hop-met _ _ (mainIn (s .args .main .now)) (doorOf (s .args .main .now)) (s .args .least) (behind (s .args .met) (s .args .metres) (byRisks (s .args .risks))) _
+    sym (hop-met _ _ (mainIn (s .args .main .now)) (doorOf (s .args .main .now)) (lastBarred (s .args .main .now)) (s .args .least) (behind (s .args .met) (s .args .metres) (byRisks (s .args .risks))) (s .args .i) _
     (has-met (s .args .met) (h .before .head .ensures .0) (h .has .ensures) (c .if1 .taken)))
 
 too-far : tie.Need-returns-2
 too-far c =
     let l = c .before .before in
-    sym (hop-far (meshIn (net l)) (lower l) (main l) (door l) (start l .args .least) (passed l) (arc l) (new l) (omega (arith, length-is l, c .if2 .taken, c .before .reach .ensures .0)))
+    sym (hop-far (meshIn (net l)) (lower l) (main l) (door l) (last l) (start l .args .least) (passed l) (start l .args .i) (arc l) (new l) (omega (arith, length-is l, c .if2 .taken, c .before .reach .ensures .0)))
 
 no-better : tie.Need-returns-3
 no-better c =
     let k = c .before in
     let l = bounded k in
-    sym (hop-no-better (meshIn (net l)) (lower l) (main l) (door l) (start l .args .least) (passed l) (arc l) (new l) (reached k) (omega (arith, key-is k, c .if3 .taken)))
+    sym (hop-no-better (meshIn (net l)) (lower l) (main l) (door l) (last l) (start l .args .least) (passed l) (start l .args .i) (arc l) (new l) (reached k) (omega (arith, key-is k, c .if3 .taken)))
 
-ends : tie.Need-returns-4
+-- at the terminal
+abbrev keyed : tie.Then4 → tie.After-standby-key
+keyed d = d .before .before .before
+
+better : (d : tie.Then4) → keyed d .standby-key .result < start (bounded (keyed d)) .args .least
+better d = omega (arith, d .before .before .if3 .left)
+
+at-terminal : (d : tie.Then4) → let l = bounded (keyed d) in arc l .head ≡ meshIn (net l) .terminal
+at-terminal d = sym (head-is (bounded (keyed d))) ∙ d .if4 .taken ∙ d .before .terminal .ensures .0
+
+barred : tie.Need-returns-4
+barred c =
+    let d = c .before .before in
+    let k = keyed d in
+    let l = bounded k in
+    sym (hop-barred (meshIn (net l)) (lower l) (main l) (door l) (last l) (start l .args .least) (passed l) (start l .args .i) (arc l) (opens k (better d)) (at-terminal d) (c .if5 .taken))
+
+ends : tie.Need-returns-5
 ends c =
-    let k = c .before .before .before in
+    let d = c .before .before in
+    let k = keyed d in
     let l = bounded k in
     ap Ends (key-is k)
-    ∙ sym (hop-ends (meshIn (net l)) (lower l) (main l) (door l) (start l .args .least) (passed l) (arc l) (opens k (omega (arith, c .before .before .if3 .left)))
-    (sym (head-is l) ∙ c .if4 .taken ∙ c .before .terminal .ensures .0))
+    ∙ sym (hop-ends (meshIn (net l)) (lower l) (main l) (door l) (last l) (start l .args .least) (passed l) (start l .args .i) (arc l) (opens k (better d)) (at-terminal d) (c .if5 .left))
 
-leads : tie.Need-returns-5
+leads : tie.Need-returns-6
 leads c =
     let w = c .before in
     let t = w .before .before in
@@ -130,7 +150,7 @@ leads c =
     let joins = joined-plain (start l .args .risks) (ofArc (arc l)) (plain l .0) (plain l .1) in
     let on = onto-read (passed l) (arc l) (w .with .ensures) (head-is l) (l .before .metres .ensures .0) (c .by-risks .ensures ∙ ap byRisks (risks-on k) ∙ sym joins) refl in
     (λ i. Leads (head-is l i) (on i) (shared-is k i))
-    ∙ sym (hop-leads (meshIn (net l)) (lower l) (main l) (door l) (start l .args .least) (passed l) (arc l) (opens k (omega (arith, t .before .if3 .left)))
+    ∙ sym (hop-leads (meshIn (net l)) (lower l) (main l) (door l) (last l) (start l .args .least) (passed l) (start l .args .i) (arc l) (opens k (omega (arith, t .before .if3 .left)))
     (λ e. w .before .if4 .left (head-is l ∙ e ∙ sym (t .terminal .ensures .0))))
 
 standby-key-requires : tie.Need-standby-key-requires
@@ -167,6 +187,8 @@ look-spec =
     standby-key-requires
     no-better
     (λ c κs. search needs)
+    (λ c. search needs)
+    barred
     ends
     (λ c. omega (arith, node c))
     (λ c κs. omega (arith, node c))

@@ -36,10 +36,10 @@ returns c =
     let a = start k .args in
     let at = o .source .ensures .0 in
     let found = c .seek .ensures in (
-      sought-least (a .net .now) (a .main) (a .nodes) (a .bound) at (w .with .ensures) none (k .clear .ensures) found,
+      sought-least (a .net .now) (a .main) (a .off) (a .bound) at (w .with .ensures) none (k .clear .ensures) found,
       (
-        sought-below (a .net .now) (a .main) (a .nodes) (a .bound) at (w .with .ensures) none (k .clear .ensures) found,
-        sought-frame (a .net .now) (a .main) (a .nodes) (a .bound) at (w .with .ensures) none (k .clear .ensures) found,
+        sought-below (a .net .now) (a .main) (a .off) (a .bound) at (w .with .ensures) none (k .clear .ensures) found,
+        sought-frame (a .net .now) (a .main) (a .off) (a .bound) at (w .with .ensures) none (k .clear .ensures) found,
       ),
     )
 

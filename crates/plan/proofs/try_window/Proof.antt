@@ -10,7 +10,7 @@ use borrow.Author.Needs.{needs}
 use borrow.Author.Tests.{not-true, not-false}
 use native.Mathlib.Omega.{arith}
 use Rattle.problem.specs.Routes.{count, shorter}
-use Rattle.net.specs.Net.{routesIn}
+use Rattle.net.specs.Net.{routesIn, judgedIn}
 use Rattle.mains.specs.Mains.{Stepped}
 use Rattle.plan.specs.declared.Next.{Next}
 use Rattle.plan.specs.Plan.{notOver, Ended, Turned}
@@ -31,7 +31,7 @@ net w = start w .args .net .now
 
 -- it did not give up
 further : (w : tie.After-sweep) → let t = w .sweep .result .tally in t .over ≡ false
-    → Stepped (routesIn (net w)) (count (shorter (w .sweep .result .cut)) (routesIn (net w))) t × (t .ranked ≤ start w .args .allowance)
+    → Stepped (judgedIn (net w)) (routesIn (net w)) (count (shorter (w .sweep .result .cut)) (routesIn (net w))) t × (t .ranked ≤ start w .args .allowance)
 further w o =
     let s = start w in
     let cap = capped w .cap-for .ensures in
@@ -50,7 +50,7 @@ past w =
 
 -- it gave up within a single length
 stopped : (w : tie.After-sweep) → let t = w .sweep .result .tally in t .over ≡ true → capped w .before .smaller .result ≡ start w .args .cur
-    → Stepped (routesIn (net w)) (start w .args .allowance) (notOver t) × (start w .args .allowance < length (routesIn (net w)))
+    → Stepped (judgedIn (net w)) (routesIn (net w)) (start w .args .allowance) (notOver t) × (start w .args .allowance < length (routesIn (net w)))
 stopped w o one =
     let s = start w in
     let cap = capped w .cap-for .ensures in

@@ -10,7 +10,7 @@ plan-requires : tie.Need-plan-requires
 plan-requires c κs = let s = c .before in (s .pre .0 .words, laid-planning (s .pre .0) (s .pre .1) (s .pre .2), stored-none _ _ refl refl)
 
 returns : tie.Need-returns
-returns c = made-planned (c .before .before .before .before .pre .0) (c .choose .ensures)
+returns c = let l = c .before .before .before .before .pre .0 in made-planned (l .some-route) (l .floor-is) (c .choose .ensures)
 
 pub plan-net-spec : {M : Type 1} → statement M
 plan-net-spec =

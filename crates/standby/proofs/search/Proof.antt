@@ -1,4 +1,4 @@
--- `standby::search` meets its contract: with no label to begin with, and only banned nodes behind the source, all that the search from there counts on is true.
+-- `standby::search` meets its contract: with no label to begin with, and only barred nodes behind the source, all that the search from there counts on is true.
 -- Assumes nothing.
 use mathlib.Core.Path.{_≡_, refl, sym, _∙_}
 use native.Mathlib.Omega.{arith}
@@ -35,10 +35,10 @@ returns c =
     let a = k .before .before .args in
     let at = o .source .ensures .0 in
     let found = c .seek .ensures in (
-      sought-least (a .net .now) (a .main) (a .nodes) (a .bound) at (w .with .ensures) none (k .clear .ensures) found,
+      sought-least (a .net .now) (a .main) (a .off) (a .bound) at (w .with .ensures) none (k .clear .ensures) found,
       (
-        sought-below (a .net .now) (a .main) (a .nodes) (a .bound) at (w .with .ensures) none (k .clear .ensures) found,
-        sought-frame (a .net .now) (a .main) (a .nodes) (a .bound) at (w .with .ensures) none (k .clear .ensures) found,
+        sought-below (a .net .now) (a .main) (a .off) (a .bound) at (w .with .ensures) none (k .clear .ensures) found,
+        sought-frame (a .net .now) (a .main) (a .off) (a .bound) at (w .with .ensures) none (k .clear .ensures) found,
       ),
     )
 

@@ -12,7 +12,7 @@ returns : tie.Need-returns
 returns c =
     let e = c .before in
     let s = e .before .before .before .before .before .before .before .before in
-    (route-met _ (s .args .route) (s .pre .2) (e .end-route .result) (c .flag .result) (c .flag .ensures) (e .end-route .ensures .0), e .end-route .ensures .1)
+    (route-met _ _ (s .args .route) (s .args .last) (s .pre .2) (e .end-route .result) (c .flag .result) (c .flag .ensures) (e .end-route .ensures .0), e .end-route .ensures .1)
 
 pub meet-route-spec : {M : Type 1} → statement M
 meet-route-spec =

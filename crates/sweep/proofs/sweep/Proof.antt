@@ -13,7 +13,7 @@ use Rattle.sweep.proofs.sweep.Tie as tie
 returns : tie.Need-returns
 returns c =
     let s = c .before in
-    (over-all _ (s .args .w) (s .args .t) _ (omega (arith, s .pre .0 .reach-range, s .pre .1)) (c .if1 .taken), s .pre .2)
+    (over-all _ _ (s .args .w) (s .args .t) _ (omega (arith, s .pre .0 .reach-range, s .pre .1)) (c .if1 .taken), s .pre .2)
 
 -- nothing lies behind the source
 none : _≡_ {A = Exposure} (record { risks = 0; low = 0; high = 0 }) toNothing
