@@ -3,22 +3,16 @@
  * A case: 32-bit little-endian numbers, then the bytes of each of its inputs. The first number is the kind: 0 is a
  * plan, and table length, reply length, source, terminal, reach and allowance follow; 1 is a mend, and input length,
  * table size and list size follow; 2 is a plan around closed arcs, and the same follows as for a plan, with the closed
- * set's length behind the table's; 3 is a plan of a pair apart, and the same follows as for 2; 4 and 5 are 2 and 3 with
- * a store, and behind what follows there come, for each round, the store's number of words, its former content and a
- * seed. An answer: the numbers returned, 32 bits each (one by a plan of any kind; number, table length and list length
- * by a mend), then, with a store, two places for each round, then each whole output buffer as the call left it. An
- * answer is flushed before the next case is read, so a reader who misses one knows which case ended the driver.
+ * set's length behind the table's; 3 is a plan of a pair apart, and the same follows as for 2. An answer: the numbers
+ * returned, 32 bits each (one by a plan of any kind; number, table length and list length by a mend), then each whole
+ * output buffer as the call left it. An answer is flushed before the next case is read, so a reader who misses one
+ * knows which case ended the driver.
  *
  * Each case is called in three rounds: with each buffer ending exactly at a page without access, with each beginning
  * exactly after one, and with each at an odd address, or NULL where it is empty. One byte read or written outside them
  * then ends the driver with a message, and so does a changed byte of an input or of the guard on a buffer's open side.
  * Outputs are filled before each call, not alike in all rounds; each byte of them must come out the same in every
  * round, or untouched in every round. The driver knows nothing else of the rules: its reader judges.
- *
- * A store is placed and guarded like them, but always at an address that 8 divides, as its words need. Its size and its
- * former content are others in each round: neither may change what is returned, and so one case tries three of them.
- * What is left in it is told by two places, that of the first word which is not zero and that of the first which is not
- * as it came; where there is none in all of it, the number of words stands for the place.
  *
  * Each call runs on a stack of the size that the header tells a host to have left, with a page without access below it,
  * so one that needs more ends the driver; how much was ever used is told at the end. */
@@ -33,20 +27,9 @@
 #include <ucontext.h>
 #include <unistd.h>
 
-#ifndef FESHANGUL_STORE_WORDS_MAX
-/* The entries with a store, until the header has them. */
-uint32_t feshangul_plan_stored(const uint8_t *table, size_t table_len, const uint8_t *closed, size_t closed_len,
-                               uint8_t *reply, size_t reply_len, uint64_t *store, size_t words, uint32_t source,
-                               uint32_t terminal, uint32_t reach, uint32_t allowance);
-uint32_t feshangul_apart_stored(const uint8_t *table, size_t table_len, const uint8_t *closed, size_t closed_len,
-                                uint8_t *reply, size_t reply_len, uint64_t *store, size_t words, uint32_t source,
-                                uint32_t terminal, uint32_t reach, uint32_t allowance);
-#endif
-
 enum {
     EDGE = 65536,       /* bytes without access on each side: a multiple of every page size in use */
-    MOST = 589824,      /* bytes that a buffer may have; as words of a store 65,536 and 8,192, a number of over 16 bits */
-    WORD = 8,           /* bytes of one word of a store, and what divides its address */
+    MOST = 131072,      /* bytes that a buffer may have */
     GUARD = 4096,       /* bytes watched on a buffer's open side */
     ROOM = MOST + EDGE, /* a buffer and its guard, in whole pages */
     GUARD_BYTE = 0xC3,
@@ -70,24 +53,13 @@ struct buffer {
     uint8_t *room;       /* where it is placed */
     uint8_t *at;         /* its place in this round */
     uint32_t length;
-    uint32_t step;       /* how far behind the room's beginning it stands in the last round */
-    uint8_t bytes[MOST]; /* of an input, those that were read; of an output, those that the first round left; of a
-                          * store, those that came in this round */
+    uint8_t bytes[MOST]; /* of an input, those that were read; of an output, those that the first round left */
 };
-
-/* A store of a round: how large it is and what it holds before the call. */
-enum { WORDS, CONTENT, SEED, STORE_FIELDS };
-
-/* What a call left in a store: the places of the first word that is not zero and of the first not as it came. */
-enum { NOT_ZERO, CHANGED, STORE_PLACES };
 
 /* The case at hand. */
 static struct buffer buffers[BUFFERS]; /* the inputs, then the outputs */
-static struct buffer store;            /* of this round */
 static uint32_t fields[FIELDS];        /* the lengths of the buffers, then what else the call is given */
 static uint32_t numbers[NUMBERS];      /* what the call returned */
-static uint32_t lent[ROUNDS][STORE_FIELDS];
-static uint32_t left[ROUNDS][STORE_PLACES];
 
 static void plan(void)
 {
@@ -124,38 +96,17 @@ static void plan_apart(void)
                                       fields[3], fields[4], fields[5], fields[6]);
 }
 
-static void plan_stored(void)
-{
-    const struct buffer *table = &buffers[0], *closed = &buffers[1], *reply = &buffers[2];
-
-    numbers[0] = feshangul_plan_stored(table->at, table->length, closed->at, closed->length, reply->at, reply->length,
-                                       (uint64_t *)(void *)store.at, store.length / WORD, fields[3], fields[4],
-                                       fields[5], fields[6]);
-}
-
-static void apart_stored(void)
-{
-    const struct buffer *table = &buffers[0], *closed = &buffers[1], *reply = &buffers[2];
-
-    numbers[0] = feshangul_apart_stored(table->at, table->length, closed->at, closed->length, reply->at, reply->length,
-                                        (uint64_t *)(void *)store.at, store.length / WORD, fields[3], fields[4],
-                                        fields[5], fields[6]);
-}
-
-enum { PLAN, MEND, AROUND, APART, STORED, APART_STORED, KINDS };
+enum { PLAN, MEND, AROUND, APART, KINDS };
 
 static const struct kind {
     size_t inputs, buffers, fields, numbers; /* how many it has; the inputs are among the buffers */
-    int has_store;
     const char *names[BUFFERS];              /* of its buffers, for messages */
     void (*call)(void);
 } kinds[KINDS] = {
-    [PLAN] = { 1, 2, 6, 1, 0, { "the table", "the reply" }, plan },
-    [MEND] = { 1, 3, 3, 3, 0, { "the input", "the table", "the list" }, mend },
-    [AROUND] = { 2, 3, 7, 1, 0, { "the table", "the closed set", "the reply" }, plan_around },
-    [APART] = { 2, 3, 7, 1, 0, { "the table", "the closed set", "the reply" }, plan_apart },
-    [STORED] = { 2, 3, 7, 1, 1, { "the table", "the closed set", "the reply" }, plan_stored },
-    [APART_STORED] = { 2, 3, 7, 1, 1, { "the table", "the closed set", "the reply" }, apart_stored },
+    [PLAN] = { 1, 2, 6, 1, { "the table", "the reply" }, plan },
+    [MEND] = { 1, 3, 3, 3, { "the input", "the table", "the list" }, mend },
+    [AROUND] = { 2, 3, 7, 1, { "the table", "the closed set", "the reply" }, plan_around },
+    [APART] = { 2, 3, 7, 1, { "the table", "the closed set", "the reply" }, plan_apart },
 };
 
 static const struct kind *kind; /* of the case at hand */
@@ -212,17 +163,17 @@ static uint8_t *placed(const struct buffer *b, enum round round)
     switch (round) {
     case ENDING: return b->room + ROOM - b->length;
     case BEGINNING: return b->room;
-    default: return b->length == 0 ? NULL : b->room + b->step;
+    default: return b->length == 0 ? NULL : b->room + 1;
     }
 }
 
-/* The GUARD bytes beside a buffer where access goes on; behind it in the last round. */
+/* The GUARD bytes beside a buffer where access goes on; behind it at an odd address. */
 static uint8_t *guard_beside(const struct buffer *b, enum round round)
 {
     switch (round) {
     case ENDING: return b->room + ROOM - b->length - GUARD;
     case BEGINNING: return b->room + b->length;
-    default: return b->room + b->step + b->length;
+    default: return b->room + 1 + b->length;
     }
 }
 
@@ -247,13 +198,13 @@ static void lend(size_t which, enum round round)
     memset(guard_beside(b, round), GUARD_BYTE, GUARD);
 }
 
-static void hold_guard(const struct buffer *b, const char *name, enum round round)
+static void hold_guard(size_t which, enum round round)
 {
-    const uint8_t *guard = guard_beside(b, round);
+    const uint8_t *guard = guard_beside(&buffers[which], round);
 
     for (size_t i = 0; i < GUARD; i++)
         if (guard[i] != GUARD_BYTE)
-            stop(name, "has a byte beside it that was written");
+            stop(kind->names[which], "has a byte beside it that was written");
 }
 
 static void hold_input(size_t which)
@@ -262,66 +213,6 @@ static void hold_input(size_t which)
 
     if (input->length != 0 && memcmp(input->at, input->bytes, input->length) != 0)
         stop(kind->names[which], "was written to");
-}
-
-/* The generator splitmix64, as the reader has it. A content crosses as its number and a seed, since the words of all
- * stores would be a gigabyte and more on the pipe. */
-static uint64_t roll(uint64_t *state)
-{
-    uint64_t z = *state += 0x9E3779B97F4A7C15u;
-
-    z = (z ^ z >> 30) * 0xBF58476D1CE4E5B9u;
-    z = (z ^ z >> 27) * 0x94D049BB133111EBu;
-    return z ^ z >> 31;
-}
-
-/* What a store may hold before a call. The last four are what a planner might take for its own: how many, which risk or
- * node, how far, and a store that is mostly empty. */
-enum content { ZEROS, ONES, ANY, COUNTS, BITS, METRES, FEW, CONTENTS };
-
-static uint64_t former_word(enum content content, uint64_t rolled)
-{
-    switch (content) {
-    case ZEROS: return 0;
-    case ONES: return UINT64_MAX;
-    case COUNTS: return rolled % 64;
-    case BITS: return (uint64_t)1 << rolled % 64;
-    case METRES: return rolled % 62000001;
-    case FEW: return rolled % 64 == 0 ? rolled : 0;
-    default: return rolled;
-    }
-}
-
-static void lend_store(enum round round)
-{
-    uint64_t state = lent[round][SEED];
-
-    store.length = lent[round][WORDS] * WORD;
-    store.at = placed(&store, round);
-    for (uint32_t place = 0; place < store.length; place += WORD) {
-        uint64_t word = former_word((enum content)lent[round][CONTENT], roll(&state));
-        memcpy(store.bytes + place, &word, WORD);
-        memcpy(store.at + place, &word, WORD);
-    }
-    memset(guard_beside(&store, round), GUARD_BYTE, GUARD);
-}
-
-/* The place of the first word of the store that is not as in another; the number of words where all are. */
-static uint32_t first_not_as(const uint8_t *other)
-{
-    uint32_t place = 0;
-
-    while (place < store.length && memcmp(store.at + place, other + place, WORD) == 0)
-        place += WORD;
-    return place / WORD;
-}
-
-static void look_at_store(enum round round)
-{
-    static const uint8_t zeros[MOST];
-
-    left[round][NOT_ZERO] = first_not_as(zeros);
-    left[round][CHANGED] = first_not_as(store.bytes);
 }
 
 static void call_on_small_stack(void)
@@ -354,8 +245,6 @@ static void call_in(enum round round)
     current = round;
     for (size_t i = 0; i < kind->buffers; i++)
         lend(i, round);
-    if (kind->has_store)
-        lend_store(round);
 
     calls++;
     alarm(SECONDS);
@@ -363,13 +252,9 @@ static void call_in(enum round round)
     alarm(0);
 
     for (size_t i = 0; i < kind->buffers; i++)
-        hold_guard(&buffers[i], kind->names[i], round);
+        hold_guard(i, round);
     for (size_t i = 0; i < kind->inputs; i++)
         hold_input(i);
-    if (kind->has_store) {
-        hold_guard(&store, "the store", round);
-        look_at_store(round);
-    }
 }
 
 /* Makes the first call and keeps what it left. */
@@ -414,18 +299,6 @@ static int read_numbers(uint32_t *into, size_t count)
     return 1;
 }
 
-static void read_stores(void)
-{
-    for (enum round round = ENDING; round < ROUNDS; round++) {
-        if (!read_numbers(lent[round], STORE_FIELDS))
-            stop("the case", "is cut off");
-        if (lent[round][WORDS] > MOST / WORD)
-            stop("the store", "is larger than what the driver lends");
-        if (lent[round][CONTENT] >= CONTENTS)
-            stop("the store", "is to hold what the driver does not know");
-    }
-}
-
 /* Reads one case; returns 0 where there is none left. */
 static int read_case(void)
 {
@@ -444,8 +317,6 @@ static int read_case(void)
         if (fields[i] > MOST)
             stop(kind->names[i], "is longer than what the driver lends");
     }
-    if (kind->has_store)
-        read_stores();
     for (size_t i = 0; i < kind->inputs; i++)
         if (fread(buffers[i].bytes, 1, buffers[i].length, stdin) != buffers[i].length)
             stop("the case", "is cut off");
@@ -455,26 +326,17 @@ static int read_case(void)
 /* Whether NULL stands for one of the buffers in the last round. */
 static int has_empty_buffer(void)
 {
-    if (kind->has_store && lent[ODD][WORDS] == 0)
-        return 1;
     for (size_t i = 0; i < kind->buffers; i++)
         if (buffers[i].length == 0)
             return 1;
     return 0;
 }
 
-static void write_numbers(const uint32_t *from, size_t count)
-{
-    for (size_t i = 0; i < count; i++)
-        for (int byte = 0; byte < 4; byte++)
-            putchar((int)(from[i] >> 8 * byte & 255));
-}
-
 static void write_answer(void)
 {
-    write_numbers(numbers, kind->numbers);
-    for (enum round round = ENDING; kind->has_store && round < ROUNDS; round++)
-        write_numbers(left[round], STORE_PLACES);
+    for (size_t i = 0; i < kind->numbers; i++)
+        for (int byte = 0; byte < 4; byte++)
+            putchar((int)(numbers[i] >> 8 * byte & 255));
     for (size_t i = kind->inputs; i < kind->buffers; i++)
         fwrite(buffers[i].bytes, 1, buffers[i].length, stdout);
     if (fflush(stdout) != 0)
@@ -483,12 +345,8 @@ static void write_answer(void)
 
 int main(void)
 {
-    for (size_t i = 0; i < BUFFERS; i++) {
+    for (size_t i = 0; i < BUFFERS; i++)
         buffers[i].room = fenced_room();
-        buffers[i].step = 1;
-    }
-    store.room = fenced_room();
-    store.step = WORD;
     stack_room = fenced_room();
     memset(stack_room, STACK_BYTE, STACK);
     watch_signals();
@@ -499,10 +357,8 @@ int main(void)
         null_calls += (unsigned long)has_empty_buffer();
         write_answer();
     }
-    fprintf(stderr, "driver: %lu plans, %lu plans around closed arcs, %lu plans of a pair apart, with a store %lu and "
-            "%lu of these two, %lu mends, %lu calls (%lu with NULL), no byte touched outside the buffers, at most %zu "
-            "of %d bytes of stack used\n",
-            of_kind[PLAN], of_kind[AROUND], of_kind[APART], of_kind[STORED], of_kind[APART_STORED], of_kind[MEND],
-            calls, null_calls, stack_used(), STACK);
+    fprintf(stderr, "driver: %lu plans, %lu plans around closed arcs, %lu plans of a pair apart, %lu mends, %lu calls "
+            "(%lu with NULL), no byte touched outside the buffers, at most %zu of %d bytes of stack used\n",
+            of_kind[PLAN], of_kind[AROUND], of_kind[APART], of_kind[MEND], calls, null_calls, stack_used(), STACK);
     return 0;
 }

@@ -1,10 +1,9 @@
 /* A C host in small: writes a span table (mesh A of the rules, each arc in a span of its own), asks for a pair from
  * node 0 to node 3, and prints it in words; asks for one while arc 1 is closed for works; asks for one that meets in no
- * node between the ends, and once more while arc 1 is closed, when there is none, and prints where all routes meet;
- * asks once more for the first pair with a store lent, which changes nothing, and with one that is too large; then asks
- * with an arc that is too long, and prints the refusal; then mends that table, prints what is lost, and plans with what
- * is left; then asks with an arc whose risks nobody listed, which is refused and not mended. Build it with the release:
- * cc -std=c99 -I release host/example.c release/libfeshangul.a */
+ * node between the ends, and once more while arc 1 is closed, when there is none, and prints where all routes meet; then
+ * asks with an arc that is too long, and prints the refusal; then mends that table, prints what is lost, and plans with
+ * what is left; then asks with an arc whose risks nobody listed, which is refused and not mended. Build it with the
+ * release: cc -std=c99 -I release host/example.c release/libfeshangul.a */
 #include "feshangul.h"
 
 #include <stdio.h>
@@ -85,9 +84,6 @@ static void print_refusal(uint32_t number)
     unsigned long arc = feshangul_faulty_arc(number);
 
     switch (feshangul_reason(number)) {
-    case FESHANGUL_STORE_LONG:
-        printf("refused: the store is over %u words\n", FESHANGUL_STORE_WORDS_MAX);
-        break;
     case FESHANGUL_ARC_NODE_RANGE:
         printf("refused: arc %lu has an end over node %u\n", arc, FESHANGUL_NODE_MAX);
         break;
@@ -175,23 +171,6 @@ static uint32_t plan_apart_and_print(const uint8_t *table, size_t table_len, con
     return number;
 }
 
-/* With a store of so many words, for large meshes: what it remembers saves time and changes no answer. An array of
- * words is aligned as it has to be. It is static, since a small stack has no room for it; so one thread calls this at a
- * time. */
-static uint32_t plan_stored_and_print(const uint8_t *table, size_t table_len, size_t words)
-{
-    static uint64_t store[FESHANGUL_STORE_WORDS_MAX + 1];
-    uint8_t reply[FESHANGUL_REPLY_BYTES], closed[FESHANGUL_CLOSED_BYTES] = { 0 };
-
-    store[0] = 7; /* whatever it held before */
-    uint32_t number = feshangul_plan_stored(table, table_len, closed, sizeof closed, reply, sizeof reply, store, words,
-                                            SOURCE, TERMINAL, REACH, ALLOWANCE);
-    printf("with a store of %lu words\n", (unsigned long)words);
-    print_answer(table, reply, number);
-    printf("its first word is %s\n", store[0] == 0 ? "zero" : "as it came");
-    return number;
-}
-
 static void print_change(const uint8_t *change)
 {
     static const char *const reasons[] = {
@@ -238,14 +217,11 @@ int main(void)
     printf("arc 1 closed\n");
     int none_apart = plan_apart_and_print(table, sizeof table, closed) == FESHANGUL_NONE_APART;
 
-    int stored = plan_stored_and_print(table, sizeof table, FESHANGUL_STORE_WORDS_MAX) == FESHANGUL_SETTLED &&
-                 plan_stored_and_print(table, sizeof table, FESHANGUL_STORE_WORDS_MAX + 1) == FESHANGUL_STORE_LONG;
-
     put_arc(table, 2, 0, 2, 13, FESHANGUL_ARC_METRES_MAX + 1, RISK(2));
     int refused = feshangul_reason(plan_and_print(table, sizeof table)) == FESHANGUL_ARC_METRES_RANGE;
     int mended = mend_and_plan(table, sizeof table) == FESHANGUL_SETTLED;
 
     put_arc(table, 2, 0, 2, 13, 4000, 0);
     int blank = feshangul_reason(plan_and_print(table, sizeof table)) == FESHANGUL_ARC_RISKS_BLANK;
-    return planned && around && apart && none_apart && stored && refused && mended && blank ? 0 : 1;
+    return planned && around && apart && none_apart && refused && mended && blank ? 0 : 1;
 }

@@ -5,8 +5,7 @@
  * returns, and where that is 0 or 1 read the reply with the functions at the end. host/example.c does just that.
  * A table from the field that may be faulty goes through feshangul_mend first; spans that are closed for works are
  * planned around with feshangul_plan_around; two routes that meet in no building but the two ends are planned with
- * feshangul_plan_apart. feshangul_plan_stored and feshangul_apart_stored do what these two do in a store that the host
- * lends: they answer the same, on some large meshes sooner.
+ * feshangul_plan_apart.
  *
  * Linux on x86-64. Link with `pkg-config --cflags --libs feshangul`, or this header's folder and libfeshangul.a; the
  * library needs memcpy and memset of its host and nothing else.
@@ -27,8 +26,8 @@
 extern "C" {
 #endif
 
-#define FESHANGUL_VERSION "0.10.0"
-#define FESHANGUL_VERSION_NUMBER 1000u   /* 10,000 times the first part, and 100 times the second, and the third */
+#define FESHANGUL_VERSION "0.9.0"
+#define FESHANGUL_VERSION_NUMBER 900u    /* 10,000 times the first part, and 100 times the second, and the third */
 
 /* ---- Sizes and limits ------------------------------------------------------------------------------------- */
 
@@ -46,8 +45,6 @@ extern "C" {
 #define FESHANGUL_ARC_METRES_MAX 2000000u
 #define FESHANGUL_REACH_MAX 62000000u    /* 31 arcs of 2,000,000 metres: no route is longer */
 #define FESHANGUL_ALLOWANCE_MAX 1000000u
-#define FESHANGUL_STORE_WORDS_MAX 8192u  /* words of 64 bits in a store that is lent; none is allowed too */
-#define FESHANGUL_STORE_WORDS_OWN 256u   /* words of the planner's own store, which serves where fewer are lent */
 #define FESHANGUL_MEND_BYTES_MAX 4096u   /* the longest table that is mended */
 #define FESHANGUL_CHANGE_BYTES 16u       /* one record of the list of what is lost */
 #define FESHANGUL_STACK_BYTES 24576u     /* stack to have left for a call; the most measured is 22,392 */
@@ -82,9 +79,8 @@ extern "C" {
  *                    the most that a route can have, are no longer.
  * allowance          how many mains may be tried, in order of rank, 1 to 1,000,000. The standby may be any route.
  *
- * No pointer needs any alignment, here or in another entry, but that of a store. There is no state, none is kept
- * between calls, and nothing is allocated: any number of threads may call at once, each with a reply buffer of its own,
- * where it lends a store one of its own, and FESHANGUL_STACK_BYTES of stack left. */
+ * Neither pointer needs any alignment. There is no state, none is kept between calls, and nothing is allocated: any
+ * number of threads may call at once, each with a reply buffer of its own and FESHANGUL_STACK_BYTES of stack left. */
 uint32_t feshangul_plan(const uint8_t *table, size_t table_len, uint8_t *reply, size_t reply_len, uint32_t source,
                         uint32_t terminal, uint32_t reach, uint32_t allowance);
 
@@ -116,32 +112,6 @@ uint32_t feshangul_plan_around(const uint8_t *table, size_t table_len, const uin
 uint32_t feshangul_plan_apart(const uint8_t *table, size_t table_len, const uint8_t *closed, size_t closed_len,
                               uint8_t *reply, size_t reply_len, uint32_t source, uint32_t terminal, uint32_t reach,
                               uint32_t allowance);
-
-/* Plans as feshangul_plan_around does, with a store, in which the planner remembers partial routes so that it drops
- * worse ones early. Its size and what it held before change no answer: the number and every byte of the reply are those
- * of feshangul_plan_around. A larger store only makes some requests faster, and a full one only remembers less;
- * what it brings is measured in docs/PERFORMANCE.md. @MEASURED@
- *
- * store, words   the store: 0 to FESHANGUL_STORE_WORDS_MAX words, NULL with 0 being none. It has to be aligned to 8
- *                bytes, the only pointer that needs any alignment; it overlaps neither the table, nor the closed set,
- *                nor the reply, and is this call's alone while it runs. Where it has fewer words than
- *                FESHANGUL_STORE_WORDS_OWN, the planner's own, on its stack, serves instead: nobody waits because he
- *                lent none.
- *
- * After an answer, or FESHANGUL_NO_ROUTE, every word of the store is zero, so that nothing of the mesh stays in it;
- * after any other refusal it is as it came. The host need not clear it. The call does so at its end, which takes 2 to 3
- * microseconds where the store has FESHANGUL_STORE_WORDS_MAX words: for many small meshes lend a small one, or none.
- *
- * All else is as for feshangul_plan_around. */
-uint32_t feshangul_plan_stored(const uint8_t *table, size_t table_len, const uint8_t *closed, size_t closed_len,
-                               uint8_t *reply, size_t reply_len, uint64_t *store, size_t words, uint32_t source,
-                               uint32_t terminal, uint32_t reach, uint32_t allowance);
-
-/* Plans as feshangul_plan_apart does, with a store, of which feshangul_plan_stored says the rest: number and reply are
- * those of feshangul_plan_apart. After FESHANGUL_NONE_APART and FESHANGUL_NONE_APART_YET its words are zero too. */
-uint32_t feshangul_apart_stored(const uint8_t *table, size_t table_len, const uint8_t *closed, size_t closed_len,
-                                uint8_t *reply, size_t reply_len, uint64_t *store, size_t words, uint32_t source,
-                                uint32_t terminal, uint32_t reach, uint32_t allowance);
 
 /* ---- The mender ------------------------------------------------------------------------------------------- */
 
@@ -189,9 +159,6 @@ feshangul_mended feshangul_mend(const uint8_t *input, size_t input_len, uint8_t 
  * mend it and ask again; of several faulty arcs the lowest, with the first of its faults; where no arc is faulty, of
  * several with no risk listed the lowest. Take what is not listed here as a refusal.
  *
- * What is said here of feshangul_plan_around and feshangul_plan_apart holds with a store too, of feshangul_plan_stored
- * and feshangul_apart_stored.
- *
  * 9, 11 and 23 have ended and are given to nothing else: 9 was for any fault of any arc, 11 for a route of over
  * 62,000,000 m, and there is none, and 23 for bytes 2 and 3 of an arc, which may hold any number now. */
 
@@ -220,10 +187,6 @@ static inline uint32_t feshangul_faulty_arc(uint32_t number) { return number / 2
 
 /* The reply buffer is too short. A fault of the host: lend FESHANGUL_REPLY_BYTES or more. */
 #define FESHANGUL_REPLY_SHORT 4u
-
-/* Only returned by feshangul_plan_stored and feshangul_apart_stored: the store is too large. A fault of the host: lend
- * FESHANGUL_STORE_WORDS_MAX words or fewer; see whether its bytes were counted, 8 to a word. */
-#define FESHANGUL_STORE_LONG 26u
 
 /* Source or terminal is no node. Mend the request. */
 #define FESHANGUL_END_RANGE 5u
@@ -370,7 +333,8 @@ static inline uint32_t feshangul_is_closed(const uint8_t *closed, uint32_t arc)
 
 /* ---- Readers of a reply -------------------------------------------------------------------------------------
  *
- * Each takes the buffer that one of the planner's entries has written with number 0 or 1. */
+ * Each takes the buffer that feshangul_plan, feshangul_plan_around or feshangul_plan_apart has written with number 0
+ * or 1. */
 
 /* FESHANGUL_SETTLED or FESHANGUL_STOPPED */
 static inline uint32_t feshangul_verdict(const uint8_t *reply) { return reply[FESHANGUL_REPLY_VERDICT]; }

@@ -4,7 +4,7 @@ use crate::cases::{request, set, worked, Worked, ARC_D1, ARC_D2, ARC_E2, MESH_A,
 use crate::listing::{ALLOWANCE_MAX, REACH_MAX};
 use crate::mesh::{from_paper, Arc, Request};
 
-pub fn apart(name: &'static str, arcs: &[Arc], closed: Vec<u8>, request: Request, said: &'static str) -> Worked {
+fn apart(name: &'static str, arcs: &[Arc], closed: Vec<u8>, request: Request, said: &'static str) -> Worked {
     let mut row = worked(name, arcs, request, said);
     row.case.closed = Some(closed);
     row.case.apart = true;
@@ -98,7 +98,7 @@ fn one_arc_each() -> Vec<Worked> {
 }
 
 /// Two cables to node 2 and two on from there, 1 m each with a risk of its own, and a cable past it with three of these.
-pub const MESH_NODE: &str = "0: 0,2,1,{0}; 1: 0,2,1,{1}; 2: 2,1,1,{2}; 3: 2,1,1,{3}; 4: 0,1,9,{0,1,2}";
+const MESH_NODE: &str = "0: 0,2,1,{0}; 1: 0,2,1,{1}; 2: 2,1,1,{2}; 3: 2,1,1,{3}; 4: 0,1,9,{0,1,2}";
 
 /// By node 2 to node 3 twice, 3 m each; by node 2 alone, 6 m; by node 3 alone, 7 m.
 const MESH_LATE: &str = "0: 0,2,1,{0}; 1: 2,3,1,{1}; 2: 2,3,1,{2}; 3: 3,1,1,{3}; 4: 2,1,5,{4}; 5: 0,3,6,{5}";

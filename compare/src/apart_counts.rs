@@ -4,7 +4,7 @@
 use crate::apart::{are_apart, nodes_met, pairs_apart};
 use crate::apart_random::first_main;
 use crate::listing::{answer, closed_on, faults, is_of_a_blank, is_of_an_arc, risks_and_spans};
-use crate::listing::{Answer, Plan, Reply, Route, STORE_LONG};
+use crate::listing::{Answer, Plan, Reply, Route};
 use crate::mesh::{arcs_of, marked, Arc, Case, CLOSED_BYTES};
 use crate::tally::{Tally, MANY};
 
@@ -77,7 +77,6 @@ impl PairsApart {
             ("a blank", is_of_a_blank(number)),
             ("the fault of an arc", is_of_an_arc(number)),
             ("2 to 8", (2..=8).contains(&number)),
-            ("26", number == STORE_LONG),
         ]);
     }
 

@@ -1,6 +1,6 @@
-//! Calls of every planning entry, stores aside, one in three of which wants the pair apart (T-05): those are of every
-//! kind that there is, sound and damaged, with arcs closed and with none; more of them have strands from the source to
-//! the terminal, and most a reach and an allowance at or beside where pairs apart begin, settle or end.
+//! Calls of every planning entry, one in three of which wants the pair apart (T-05): those are of every kind that there
+//! is, sound and damaged, with arcs closed and with none; more of them have strands from the source to the terminal, and
+//! most a reach and an allowance at or beside where pairs apart begin, settle or end.
 
 use crate::apart;
 use crate::closed_random;
@@ -70,7 +70,7 @@ pub fn apart_case(dice: &mut Dice) -> (Case, Option<Shape>) {
     (case, shape)
 }
 
-/// A call of any planning entry, stores aside, and the shape that its mesh was drawn in, if any.
+/// A call of any planning entry, and the shape that its mesh was drawn in, if any.
 pub fn case(dice: &mut Dice) -> (Case, Option<Shape>) {
     if dice.below(APART_EVERY) == 0 {
         return apart_case(dice);

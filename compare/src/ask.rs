@@ -6,20 +6,16 @@ use std::process::{Child, Command, Stdio};
 use std::thread;
 use std::time::Duration;
 
-/// What the driver calls a plan, a mend, a plan around closed arcs and a plan of a pair apart, and the latter two with a
-/// store.
+/// What the driver calls a plan, a mend, a plan around closed arcs and a plan of a pair apart.
 const PLAN: u32 = 0;
 pub const MEND: u32 = 1;
 const AROUND: u32 = 2;
 const APART: u32 = 3;
-const STORED: u32 = 4;
-const APART_STORED: u32 = 5;
 
 /// A call that the driver can make.
 pub trait Call: Sync {
-    /// How many numbers are told of it: those that it returns, and where it left a store otherwise than zero and than as
-    /// it came.
-    fn told(&self) -> usize;
+    /// How many numbers it returns.
+    const RETURNED: usize;
 
     /// Its kind, the lengths of its inputs and outputs, and what else it is given.
     fn numbers(&self) -> Vec<u32>;
@@ -30,22 +26,17 @@ pub trait Call: Sync {
 }
 
 impl Call for Case {
-    fn told(&self) -> usize {
-        1 + 2 * self.stores.iter().flatten().count()
-    }
+    const RETURNED: usize = 1;
 
     fn numbers(&self) -> Vec<u32> {
         let r = &self.request;
-        let mut numbers = vec![match (self.apart, &self.closed, &self.stores) {
-            (true, _, Some(_)) => APART_STORED,
-            (true, _, None) => APART,
-            (false, _, Some(_)) => STORED,
-            (false, Some(_), None) => AROUND,
-            (false, None, None) => PLAN,
+        let mut numbers = vec![match (self.apart, &self.closed) {
+            (true, _) => APART,
+            (false, Some(_)) => AROUND,
+            (false, None) => PLAN,
         }];
         numbers.extend(self.inputs().iter().map(|input| input.len() as u32));
         numbers.extend([self.reply_len as u32, r.source, r.terminal, r.reach, r.allowance]);
-        numbers.extend(self.stores.iter().flatten().flat_map(|store| store.numbers()));
         numbers
     }
 
@@ -58,7 +49,7 @@ impl Call for Case {
     }
 }
 
-/// What is told of a call in numbers, what it returned first, and each whole output buffer after it.
+/// What a call returned, and each whole output buffer after it.
 #[derive(PartialEq)]
 pub struct Given {
     pub numbers: Vec<u32>,
@@ -100,8 +91,8 @@ fn read_bytes(from: &mut impl Read, count: usize) -> Option<Vec<u8>> {
     Some(bytes)
 }
 
-fn read_answer(from: &mut impl Read, call: &impl Call) -> Option<Given> {
-    let numbers = read_bytes(from, 4 * call.told())?.chunks(4).map(|bytes| number(bytes) as u32).collect();
+fn read_answer<C: Call>(from: &mut impl Read, call: &C) -> Option<Given> {
+    let numbers = read_bytes(from, 4 * C::RETURNED)?.chunks(4).map(|bytes| number(bytes) as u32).collect();
     let outputs: Option<_> = call.output_lengths().into_iter().map(|length| read_bytes(from, length)).collect();
     Some(Given { numbers, outputs: outputs? })
 }

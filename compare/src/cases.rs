@@ -4,8 +4,6 @@ use crate::apart_cases;
 use crate::listing::REPLY_BYTES;
 use crate::listing::{answer, answer_to_input, printed, ALLOWANCE_MAX, METRES_MAX, REACH_MAX};
 use crate::mesh::{from_paper, table_bytes, Arc, Case, Request, CLOSED_BYTES};
-use crate::store;
-use crate::store_cases;
 
 pub const MESH_A: &str = "0: 0,1,1000,{0}; 1: 1,3,4000,{1}; 2: 0,2,4000,{2}; 3: 2,3,1000,{3}; 4: 1,2,1000,{4}";
 pub const MESH_B: &str = "0: 0,3,1000,{0,1,2}; 1: 0,1,1000,{0}; 2: 0,2,1000,{1,2}; 3: 2,1,1000,{3}; 4: 1,3,1000,{1,2}";
@@ -14,7 +12,7 @@ pub const ARC_D1: &str = "0: 0,1,1000,{0}";
 pub const ARC_D2: &str = "0: 0,1,1000,{}";
 pub const ARC_E2: &str = "0: 0,1,0,{}";
 
-/// A case with what is said of it: facts in the words of `Answer::facts` and `store::facts`, parted by semicolons.
+/// A case with what is said of it: facts in the words of `Answer::facts`, parted by semicolons.
 pub struct Worked {
     pub name: &'static str,
     pub case: Case,
@@ -33,8 +31,7 @@ pub fn request(source: u32, terminal: u32, reach: u32, allowance: u32) -> Reques
 }
 
 pub fn worked(name: &'static str, arcs: &[Arc], request: Request, said: &'static str) -> Worked {
-    let table = table_bytes(arcs);
-    let case = Case { table, closed: None, apart: false, stores: None, reply_len: REPLY_BYTES, request };
+    let case = Case { table: table_bytes(arcs), closed: None, apart: false, reply_len: REPLY_BYTES, request };
     Worked { name, case, said }
 }
 
@@ -498,7 +495,7 @@ pub fn set(first: &[u8]) -> Vec<u8> {
     set_but(0, 0, first)
 }
 
-pub fn around(name: &'static str, arcs: &[Arc], closed: Vec<u8>, request: Request, said: &'static str) -> Worked {
+fn around(name: &'static str, arcs: &[Arc], closed: Vec<u8>, request: Request, said: &'static str) -> Worked {
     let mut row = worked(name, arcs, request, said);
     row.case.closed = Some(closed);
     row
@@ -847,8 +844,7 @@ fn without_set() -> Vec<Worked> {
     rows
 }
 
-/// All rows of calls that are lent no store.
-fn without_store() -> Vec<Worked> {
+pub fn all() -> Vec<Worked> {
     let mut rows = without_set();
     rows.extend(with_nothing_closed());
     rows.extend(closed_in_mesh_a());
@@ -860,13 +856,6 @@ fn without_store() -> Vec<Worked> {
     rows.extend(blanks_in_mesh_a());
     rows.extend(blanks_before_sets());
     rows.extend(apart_cases::all());
-    rows
-}
-
-pub fn all() -> Vec<Worked> {
-    let mut rows = without_store();
-    rows.extend(store_cases::with_stores(without_store()));
-    rows.extend(store_cases::all());
     rows
 }
 
@@ -946,9 +935,7 @@ pub fn all_texts() -> Vec<WorkedText> {
 pub fn hold_listing() -> Result<usize, String> {
     let (rows, texts) = (all(), all_texts());
     for row in &rows {
-        let answer = answer(&row.case);
-        let mut facts = answer.facts();
-        facts.extend(row.case.stores.iter().flat_map(|stores| store::facts(stores, answer.number())));
+        let facts = answer(&row.case).facts();
         for said in row.said.split("; ") {
             if !facts.iter().any(|fact| fact == said) {
                 let entry = match (row.case.apart, &row.case.closed) {
@@ -956,9 +943,7 @@ pub fn hold_listing() -> Result<usize, String> {
                     (false, Some(_)) => ", with a closed set",
                     (false, None) => "",
                 };
-                let lent = if row.case.stores.is_some() { ", with a store" } else { "" };
-                let facts = facts.join("; ");
-                return Err(format!("{}{entry}{lent}: `{said}` is said, the listing gives {facts}", row.name));
+                return Err(format!("{}{entry}: `{said}` is said, the listing gives {}", row.name, facts.join("; ")));
             }
         }
     }
@@ -973,5 +958,5 @@ pub fn hold_listing() -> Result<usize, String> {
     if given != reply {
         return Err(format!("by hand the reply is\n{reply:?}\nthe listing gives\n{given:?}"));
     }
-    Ok(rows.len() + texts.len() + 1 + store_cases::hold_places()?)
+    Ok(rows.len() + texts.len() + 1)
 }

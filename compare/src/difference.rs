@@ -4,7 +4,6 @@ use crate::ask::Given;
 use crate::listing::{answer, closed_on, is_blank, Answer, Plan, REPLY_BYTES};
 use crate::mesh::{arcs_of, arcs_on_paper, marked, number, risks_on_paper, set_of, table_bytes, torn_end};
 use crate::mesh::{Arc, Case, ARC_BYTES, CLOSED_BYTES};
-use crate::store::{left_on_paper, smaller_stores};
 use std::ops::Range;
 use std::time::{Duration, Instant};
 
@@ -140,22 +139,14 @@ fn tables_with_less_on_arcs(table: &[u8]) -> Vec<Vec<u8>> {
     (0..64).filter_map(without_risk).chain(spans.into_iter().filter_map(without_span)).collect()
 }
 
-/// The case without its store, and with a smaller one.
-fn cases_with_less_lent(case: &Case) -> Vec<Case> {
-    let Some(stores) = &case.stores else { return Vec::new() };
-    let with = |stores| Case { stores: Some(stores), ..case.clone() };
-    std::iter::once(case.without_store()).chain(smaller_stores(stores).into_iter().map(with)).collect()
-}
-
 /// What to try in place of a case: without many arcs, without one, with fewer of them closed, without a risk, without a
-/// span, without a store or with a smaller one, with the plainest buffer.
+/// span, with the plainest buffer.
 pub fn smaller_cases(case: &Case) -> Vec<Case> {
     let mut smaller = cases_without_arcs(case);
     smaller.extend(cases_with_less_closed(case));
     let with = |table| Case { table, ..case.clone() };
     smaller.extend(tables_with_less_on_arcs(&case.table).into_iter().map(with));
     let mut cases: Vec<Case> = smaller.into_iter().flat_map(|smaller| with_fitting_allowances(case, smaller)).collect();
-    cases.extend(cases_with_less_lent(case));
     if case.reply_len > REPLY_BYTES {
         cases.push(Case { reply_len: REPLY_BYTES, ..case.clone() });
     }
@@ -259,7 +250,6 @@ pub fn given_on_paper(case: &Case, expected: &Given, given: &Given) -> String {
     let is_planned = |given: &Given| given.numbers[0] <= 1;
     let differences = if is_planned(expected) { reply_differences } else { refusal_differences };
     text += &differences(&expected.outputs[0], &given.outputs[0]);
-    text += &left_on_paper(&expected.numbers[1..], &given.numbers[1..]);
     if is_planned(given) && case.reply_len >= REPLY_BYTES {
         text += &closed_in_reply(case.closed_set(), &given.outputs[0]);
     }

@@ -3,7 +3,6 @@
 
 use crate::apart;
 use crate::mesh::{arcs_of, arcs_on_paper, is_marked, marked, number, Arc, Case, Request, ARC_BYTES, CLOSED_BYTES};
-use crate::store::are_too_large;
 use std::ops::ControlFlow;
 
 pub const TABLE_BYTES_MAX: usize = 2_048;
@@ -16,8 +15,6 @@ pub const ALLOWANCE_MAX: u32 = 1_000_000;
 const SHARED_MAX: u32 = 64 + 31;
 const REQUEST_BYTES: usize = 16;
 pub const ROUTE_BYTES: usize = 32;
-/// The number that tells of a store which is too large (T-12).
-pub const STORE_LONG: u32 = 26;
 const NO_ARC: u8 = 255;
 
 // ---- Routes and their ranking ----
@@ -367,7 +364,6 @@ pub fn faults(case: &Case) -> Vec<u32> {
         (2, case.table.len() > TABLE_BYTES_MAX),
         (3, case.table.len() % ARC_BYTES != 0),
         (4, case.reply_len < REPLY_BYTES),
-        (STORE_LONG, case.stores.as_ref().is_some_and(are_too_large)),
         (5, r.source > NODE_MAX || r.terminal > NODE_MAX),
         (6, r.source == r.terminal),
         (7, r.reach > REACH_MAX),
@@ -449,7 +445,7 @@ pub fn case_of_input(input: &[u8]) -> Option<Case> {
         reach: number(&request[4..8]) as u32,
         allowance: number(&request[8..12]) as u32,
     };
-    Some(Case { table: table.to_vec(), closed: None, apart: false, stores: None, reply_len: REPLY_BYTES, request })
+    Some(Case { table: table.to_vec(), closed: None, apart: false, reply_len: REPLY_BYTES, request })
 }
 
 pub fn answer_to_input(input: &[u8]) -> Answer {

@@ -1,14 +1,12 @@
 //! Calls on meshes with routes of 31 arcs, the most that a route can have: every search then calls itself as often as it
 //! ever does, one search within another, so that the stack which the driver measures is what a call takes at most. One
 //! in three wants the pair apart (T-05); a route over all nodes is then apart from a straight arc alone, so these meshes
-//! have such arcs, or ways that part a chain of all nodes in two. One in three is lent a store (T-12), not too large.
+//! have such arcs, or ways that part a chain of all nodes in two.
 
 use crate::apart_random::APART_EVERY;
 use crate::listing::{has_spans, Answer, Reply, ALLOWANCE_MAX, REACH_MAX, REPLY_BYTES};
 use crate::mesh::{arcs_of, marked, set_of, table_bytes, Arc, Case, Request, CLOSED_BYTES};
 use crate::random::{arcs_between, chain, lengths, number_spans, rename_nodes, risks, Dice, Ends};
-use crate::store_counts::add_words;
-use crate::store_random::lend;
 use crate::tally::{Tally, MANY};
 
 /// The arcs of the longest routes, and so the hops of a chain of all nodes.
@@ -77,9 +75,7 @@ pub fn case(dice: &mut Dice) -> Case {
     }
     let few = dice.between(1, 40) as u32;
     let request = Request { source, terminal, reach: REACH_MAX, allowance: dice.pick(&[1, few, ALLOWANCE_MAX]) };
-    let mut case = Case { table: table_bytes(&arcs), closed, apart, stores: None, reply_len: REPLY_BYTES, request };
-    lend(dice, &mut case);
-    case
+    Case { table: table_bytes(&arcs), closed, apart, reply_len: REPLY_BYTES, request }
 }
 
 fn is_longest(route: &[u8]) -> bool {
@@ -93,7 +89,6 @@ pub struct LongRoutes {
     with_longest: usize,
     any: Tally,
     apart: Tally,
-    words: Tally,
 }
 
 impl LongRoutes {
@@ -101,7 +96,6 @@ impl LongRoutes {
         self.cases += 1;
         let (Answer::Planned(plan, _) | Answer::Unpaired(plan, _)) = answer else { return };
         self.with_longest += usize::from(plan.ranking.iter().any(|route| is_longest(&route.arcs)));
-        case.stores.iter().flatten().for_each(|store| add_words(&mut self.words, store));
         match answer {
             _ if case.apart => self.add_apart(case, answer),
             Answer::Planned(_, reply) => self.add_any(case, reply),
@@ -118,7 +112,6 @@ impl LongRoutes {
             ("with spans", both && spanned),
             ("without", both && !spanned),
             ("with arcs closed", both && !marked(case.closed_set()).is_empty()),
-            ("with a store", both && case.stores.is_some()),
             ("stopped", both && !reply.settled),
         ]);
     }
@@ -137,7 +130,6 @@ impl LongRoutes {
             ("one of 31 with spans", has_longest && spanned),
             ("without", has_longest && !spanned),
             ("with arcs closed", has_longest && !marked(case.closed_set()).is_empty()),
-            ("with a store", has_longest && case.stores.is_some()),
             (
                 "all nodes on one or the other",
                 main.len() > 1 && standby.len() > 1 && main.len() + standby.len() > LONGEST,
@@ -152,7 +144,6 @@ impl LongRoutes {
         println!("  cases with routes of 31 arcs {}", self.with_longest);
         self.any.print("for any pair");
         self.apart.print("for a pair apart");
-        self.words.print("words of their stores, one for each round");
     }
 
     /// Whether every case had routes of 31 arcs, and of many cases some were of each kind.
@@ -161,8 +152,7 @@ impl LongRoutes {
         if without > 0 {
             println!("NOT MET: long routes: {without} cases have no route of 31 arcs");
         }
-        let all = [&self.any, &self.apart, &self.words];
-        // Each is asked, so that each tells what it misses.
-        without == 0 && (self.cases < MANY || all.iter().filter(|tally| !tally.has_met_all("long routes")).count() == 0)
+        without == 0
+            && (self.cases < MANY || (self.any.has_met_all("long routes") & self.apart.has_met_all("long routes")))
     }
 }

@@ -5,8 +5,7 @@
 //!   compare listing                        holds the listing itself to the cases that 01 works by hand, and the mender
 //!                                          here to tables mended by hand
 //!   compare calls COUNT SEED COMMAND..     compares those cases and COUNT random calls, a third of them around closed
-//!                                          arcs and a third for pairs apart, and of all a third lent a store, through
-//!                                          the driver COMMAND
+//!                                          arcs and a third for pairs apart, through the driver COMMAND
 //!   compare long COUNT SEED COMMAND..      compares COUNT random calls on meshes with routes of 31 arcs, through the
 //!                                          driver COMMAND
 //!   compare rising COUNT SEED COMMAND..    compares calls on COUNT random meshes, each asked at rising allowances for a
@@ -43,10 +42,6 @@ mod mesh;
 mod random;
 mod rising;
 mod span_counts;
-mod store;
-mod store_cases;
-mod store_counts;
-mod store_random;
 mod tally;
 mod trade;
 
@@ -69,7 +64,6 @@ use span_counts::{MendSpans, PlanSpans};
 use std::io::Read;
 use std::process::exit;
 use std::time::Instant;
-use store_counts::LentStores;
 use trade::Shape;
 
 /// One input in so many is handed to the program in pieces.
@@ -178,26 +172,21 @@ fn show_given(answers: &Answers, expected: &Given, on_paper: impl Fn(&Given, &Gi
 // ---- Calls ----
 
 fn expected_of(case: &Case, answer: &Answer) -> Given {
-    let mut numbers = vec![answer.number()];
-    numbers.extend(case.stores.iter().flatten().flat_map(|store| store.after(answer.number())));
-    Given { numbers, outputs: vec![answer.buffer_after(ask::filled(case.reply_len))] }
+    Given { numbers: vec![answer.number()], outputs: vec![answer.buffer_after(ask::filled(case.reply_len))] }
 }
 
 fn compare_calls(count: u64, seed: u64, command: &[String]) -> bool {
     let mut dice = Dice::new(seed);
     let mut all: Vec<(Case, Option<Shape>)> = cases::all().into_iter().map(|row| (row.case, None)).collect();
-    all.extend((0..count).map(|_| store_random::case(&mut dice)));
+    all.extend((0..count).map(|_| apart_random::case(&mut dice)));
     let (all, shapes): (Vec<Case>, Vec<Option<Shape>>) = all.into_iter().unzip();
     let worked = all.len() - count as usize;
 
     let (mut counts, mut spans, mut blanks) = (Counts::default(), PlanSpans::default(), PlanBlanks::default());
-    let (mut closed, mut apart, mut stores) = (ClosedSets::default(), PairsApart::default(), LentStores::default());
+    let (mut closed, mut apart) = (ClosedSets::default(), PairsApart::default());
     let compared = compare("calls", seed, command, &all, |place| {
         let answer = answer(&all[place]);
         counts.add(Some(&all[place]), shapes[place], &answer);
-        if place >= worked {
-            stores.add(&all[place], shapes[place], &answer);
-        }
         if place >= worked && all[place].apart {
             apart.add(&all[place], &answer);
         } else if place >= worked {
@@ -212,12 +201,10 @@ fn compare_calls(count: u64, seed: u64, command: &[String]) -> bool {
     blanks.print();
     closed.print();
     apart.print();
-    stores.print();
     if let Some(first) = compared.first {
         show_call(command, &all[first]);
     }
-    let met = spans.has_met_all() & blanks.has_met_all() & closed.has_met_all() & apart.has_met_all();
-    met & stores.has_met_all() && compared.same
+    spans.has_met_all() & blanks.has_met_all() & closed.has_met_all() & apart.has_met_all() && compared.same
 }
 
 fn compare_long(count: u64, seed: u64, command: &[String]) -> bool {

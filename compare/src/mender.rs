@@ -185,9 +185,7 @@ impl Mend {
 }
 
 impl Call for Mend {
-    fn told(&self) -> usize {
-        3
-    }
+    const RETURNED: usize = 3;
 
     fn numbers(&self) -> Vec<u32> {
         vec![MEND, self.input.len() as u32, self.table_size as u32, self.list_size as u32]
@@ -207,7 +205,7 @@ impl Call for Mend {
 /// What the planner refuses a table for, by its own rules and not by those above.
 fn refusals_by_planner(table: &[u8]) -> Vec<u32> {
     let request = Request { source: 0, terminal: 1, reach: REACH_MAX, allowance: ALLOWANCE_MAX };
-    faults(&Case { table: table.to_vec(), closed: None, apart: false, stores: None, reply_len: REPLY_BYTES, request })
+    faults(&Case { table: table.to_vec(), closed: None, apart: false, reply_len: REPLY_BYTES, request })
 }
 
 /// Whether the planner finds no fault in a table but a blank, which is left for a person (T-09).

@@ -1,7 +1,5 @@
 //! Arcs, requests and cases: as bytes, and as people write them on paper (01, "Meshes worked by hand").
 
-use crate::store::{stores_on_paper, Stores};
-
 pub const ARC_BYTES: usize = 16;
 pub const CLOSED_BYTES: usize = 16;
 /// So many arcs of a table are put on paper: one more than the longest input that is mended has.
@@ -28,8 +26,8 @@ pub struct Request {
     pub allowance: u32,
 }
 
-/// One call of a planning entry: the table may be damaged, the closed set no set, the store too large, the buffer too
-/// short, the request out of range.
+/// One call of a planning entry: the table may be damaged, the closed set no set, the buffer too short, the request out
+/// of range.
 #[derive(Clone)]
 pub struct Case {
     pub table: Vec<u8>,
@@ -37,8 +35,6 @@ pub struct Case {
     pub closed: Option<Vec<u8>>,
     /// Whether it is a call of the entry that wants the pair apart (T-05), which brings a closed set as well.
     pub apart: bool,
-    /// What a call of an entry with a store is lent (T-12), which brings a closed set as well.
-    pub stores: Option<Stores>,
     pub reply_len: usize,
     pub request: Request,
 }
@@ -168,7 +164,7 @@ impl Case {
     pub fn on_paper(&self) -> String {
         let r = &self.request;
         format!(
-            "source {}, terminal {}, reach {}, allowance {}{}\ntable of {} bytes, reply buffer of {} bytes\n{}{}{}",
+            "source {}, terminal {}, reach {}, allowance {}{}\ntable of {} bytes, reply buffer of {} bytes\n{}{}",
             r.source,
             r.terminal,
             r.reach,
@@ -176,7 +172,6 @@ impl Case {
             if self.apart { ", the pair apart" } else { "" },
             self.table.len(),
             self.reply_len,
-            self.stores.as_ref().map_or(String::new(), stores_on_paper),
             self.closed.as_ref().map_or(String::new(), |set| closed_on_paper(set)),
             table_on_paper(&self.table)
         )
@@ -187,16 +182,9 @@ impl Case {
         self.closed.as_deref().unwrap_or_default()
     }
 
-    /// The same call of the entry that knows of no closed arcs; of those which want the pair apart or are lent a store,
-    /// with none closed.
+    /// The same call of the entry that knows of no closed arcs; of that which wants the pair apart, with none closed.
     pub fn without_set(&self) -> Case {
-        let needs_set = self.apart || self.stores.is_some();
-        Case { closed: needs_set.then(|| vec![0; CLOSED_BYTES]), ..self.clone() }
-    }
-
-    /// The same call of the entry that is lent no store.
-    pub fn without_store(&self) -> Case {
-        Case { stores: None, ..self.clone() }
+        Case { closed: self.apart.then(|| vec![0; CLOSED_BYTES]), ..self.clone() }
     }
 
     /// The same call of the entry that takes any pair.

@@ -459,8 +459,7 @@ fn sound(dice: &mut Dice, shape: Option<Shape>) -> Case {
             continue;
         }
         request.allowance = allowance(dice, steps);
-        let (table, reply_len) = (table_bytes(&arcs), reply_len(dice));
-        return Case { table, closed: None, apart: false, stores: None, reply_len, request };
+        return Case { table: table_bytes(&arcs), closed: None, apart: false, reply_len: reply_len(dice), request };
     }
 }
 

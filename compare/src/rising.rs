@@ -1,6 +1,5 @@
 //! The planner's answers held to each other (T-05): one mesh is asked at rising allowances, at each of them for a pair
-//! apart and for any pair, one call in three with a store (T-12). What is held here is what a customer sees, and the
-//! listing has no say in it.
+//! apart and for any pair. What is held here is what a customer sees, and the listing has no say in it.
 
 use crate::apart::are_apart;
 use crate::apart_random::{apart_case, first_main};
@@ -8,7 +7,6 @@ use crate::ask::Given;
 use crate::listing::{answer, faults, Answer, ALLOWANCE_MAX, REPLY_BYTES, ROUTE_BYTES};
 use crate::mesh::{arcs_of, marked, number, Arc, Case};
 use crate::random::Dice;
-use crate::store_random::lend;
 use crate::tally::{Tally, MANY};
 
 /// So many of the allowances in a hundred are asked at, so that steps on the way are passed over now and then.
@@ -53,9 +51,7 @@ pub fn rise(dice: &mut Dice) -> Rise {
         }
     };
     let asked = allowances(dice, &case).into_iter().map(|allowance| case.with_allowance(allowance));
-    let mut rise: Rise = asked.flat_map(|case| [case.clone(), for_any_pair(&case)]).collect();
-    rise.iter_mut().for_each(|case| lend(dice, case));
-    rise
+    asked.flat_map(|case| [case.clone(), for_any_pair(&case)]).collect()
 }
 
 /// A pair as it is judged: shared count, total, then main and standby, each by its metres and its arcs.
@@ -116,7 +112,6 @@ pub struct Relations {
     rises: usize,
     steps: Tally,
     beside: Tally,
-    stores: Tally,
 }
 
 type Held = Result<(), &'static str>;
@@ -169,12 +164,10 @@ impl Relations {
             hold_beside(&two[0], &two[1], &arcs, rise[2 * place].request.allowance)
                 .map_err(|what| (2 * place, what))?;
             self.add_beside(&two[0], &two[1], &arcs);
-            self.add_stores(&rise[2 * place], &rise[2 * place + 1]);
         }
         for (place, two) in apart.windows(2).enumerate() {
             hold_rise(two[0], two[1]).map_err(|what| (2 * place + 2, what))?;
             self.add_step(two[0], two[1]);
-            self.add_stores(&rise[2 * place], &rise[2 * place + 2]);
         }
         let last = apart[apart.len() - 1].number;
         hold([0, 10, 14].contains(&last), "an allowance of N or more settles or gives 14")
@@ -210,25 +203,13 @@ impl Relations {
         ]);
     }
 
-    fn add_stores(&mut self, one: &Case, other: &Case) {
-        let lent = (one.stores.is_some(), other.stores.is_some());
-        self.stores.add([
-            ("both", lent == (true, true)),
-            ("one of them", lent.0 != lent.1),
-            ("neither", lent == (false, false)),
-        ]);
-    }
-
     pub fn print(&self) {
         println!("  meshes whose answers hold to each other {}", self.rises);
         self.steps.print("for a pair apart, from an allowance to the next");
         self.beside.print("beside the answer for any pair");
-        self.stores.print("held to each other, with a store");
     }
 
     pub fn has_met_all(&self) -> bool {
-        let all = [(&self.steps, "rising allowances"), (&self.beside, "any pair"), (&self.stores, "stores")];
-        // Each is asked, so that each tells what it misses.
-        self.rises < MANY || all.iter().filter(|(tally, title)| !tally.has_met_all(title)).count() == 0
+        self.rises < MANY || (self.steps.has_met_all("rising allowances") & self.beside.has_met_all("any pair"))
     }
 }

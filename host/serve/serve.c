@@ -12,19 +12,15 @@
  *   2, around table length, closed length, reply length, source, terminal, reach, allowance, then the table's bytes and
  *             the closed set's. The answer: as of a plan.
  *   3, apart  the same as of 2, for a pair apart. The answer: as of a plan.
- *   4, 5      the same as of 2 and of 3, with how many words of a store are lent, behind the reply length. The store is
- *             this program's own and does not cross. The answer: as of a plan.
  *
  * Exit status 0 where the input ends between two cases, 1 where it ends within one or the output is closed, 2 where the
- * kind is another or a length is over MOST, 3 where a call has not left its store as feshangul.h says. */
+ * kind is another or a length is over MOST. */
 #include "feshangul.h"
 
 enum { MOST = 65536 };
-enum { STORE = FESHANGUL_STORE_WORDS_MAX + 1 }; /* words: one too many, so that this can be told */
-enum { PLAN = 0, MEND = 1, AROUND = 2, APART = 3, AROUND_STORED = 4, APART_STORED = 5 };
+enum { PLAN = 0, MEND = 1, AROUND = 2, APART = 3 };
 
 static uint8_t input[2 * MOST], answer[12 + 2 * MOST];
-static uint64_t store[STORE];
 
 /* What the archive asks of a C library. Volatile, so that the compiler does not make either a call of itself. */
 void *memcpy(void *to, const void *from, size_t length)
@@ -37,16 +33,11 @@ void *memcpy(void *to, const void *from, size_t length)
     return to;
 }
 
-/* Eight bytes at once, since a call may clear a store of 64 KiB, and an emulator takes its time over each step. */
 void *memset(void *to, int byte, size_t length)
 {
-    typedef uint64_t eight __attribute__((may_alias, aligned(1)));
     volatile uint8_t *t = to;
-    size_t i = 0;
 
-    for (; i + 8 <= length; i += 8)
-        *(volatile eight *)(t + i) = (uint8_t)byte * 0x0101010101010101u;
-    for (; i < length; i++)
+    for (size_t i = 0; i < length; i++)
         t[i] = (uint8_t)byte;
     return to;
 }
@@ -109,25 +100,6 @@ static uint32_t length_at(const uint8_t *at)
     return length;
 }
 
-/* How many words of the store a case wants lent. Any more than there are would be refused for that alone. */
-static uint32_t words_at(const uint8_t *at)
-{
-    uint32_t words = feshangul_u32(at);
-
-    return words < STORE ? words : STORE;
-}
-
-/* The store is zero before a call, so it is afterwards, whether the call has cleared it or left it as it came. */
-static void hold_store(void)
-{
-    uint64_t any = 0;
-
-    for (size_t word = 0; word < STORE; word++)
-        any |= store[word];
-    if (any != 0)
-        end(3);
-}
-
 static void answer_plan(void)
 {
     uint8_t head[24];
@@ -157,26 +129,6 @@ static void answer_with_set(planner *plan)
     uint32_t number = plan(input, table_len, input + table_len, closed_len, answer + 4, reply_len,
                            feshangul_u32(head + 12), feshangul_u32(head + 16), feshangul_u32(head + 20),
                            feshangul_u32(head + 24));
-    feshangul_put_u32(answer, number);
-    write_all(answer, 4 + reply_len);
-}
-
-typedef uint32_t stored_planner(const uint8_t *, size_t, const uint8_t *, size_t, uint8_t *, size_t, uint64_t *, size_t,
-                                uint32_t, uint32_t, uint32_t, uint32_t);
-
-/* Of an entry that is lent a store too. */
-static void answer_with_store(stored_planner *plan)
-{
-    uint8_t head[32];
-
-    read_all(head, sizeof head);
-    uint32_t table_len = length_at(head), closed_len = length_at(head + 4), reply_len = length_at(head + 8);
-    read_all(input, table_len + closed_len);
-    memset(answer + 4, 0, reply_len);
-    uint32_t number = plan(input, table_len, input + table_len, closed_len, answer + 4, reply_len, store,
-                           words_at(head + 12), feshangul_u32(head + 16), feshangul_u32(head + 20),
-                           feshangul_u32(head + 24), feshangul_u32(head + 28));
-    hold_store();
     feshangul_put_u32(answer, number);
     write_all(answer, 4 + reply_len);
 }
@@ -217,12 +169,6 @@ static _Noreturn void serve(void)
             break;
         case APART:
             answer_with_set(feshangul_plan_apart);
-            break;
-        case AROUND_STORED:
-            answer_with_store(feshangul_plan_stored);
-            break;
-        case APART_STORED:
-            answer_with_store(feshangul_apart_stored);
             break;
         default:
             end(2);

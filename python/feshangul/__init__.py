@@ -10,12 +10,11 @@
 `plan` returns a Pair, or a Refusal with its number and words. `mesh.with_closed([3, 7])` is the mesh with these arcs closed, so
 that no route takes them. `Request(.., apart=True)` asks for two routes that meet in no building but the two ends; where there
 are none, `on_every_route` tells what every route goes through. `mesh.blank` are the arcs with no risk listed, for which the
-planner refuses a mesh. `plan(.., store=0)` lends the planner no words to remember in, in place of 8,192: that changes how long
-it takes, and no answer. `mend` takes the faulty arcs out of a mesh, and returns a Mended, or a MendRefusal; `mend_table` does so
+planner refuses a mesh. `mend` takes the faulty arcs out of a mesh, and returns a Mended, or a MendRefusal; `mend_table` does so
 for a table in bytes. The standard library alone is needed.
 """
 
-__version__ = "0.10.0"
+__version__ = "0.9.0"
 
 from pathlib import Path
 

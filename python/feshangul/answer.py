@@ -88,35 +88,24 @@ class Refusal:
     verdict = "refused"
 
 
-def plan(mesh, request, *, store=None):
-    """Asks the proved planner, and returns a Pair or a Refusal. `store` is how many words it is lent to remember partial routes
-    in, 0 to 8,192, the most where none are given: they change how long it takes, and no answer."""
+def plan(mesh, request):
+    """Asks the proved planner, and returns a Pair or a Refusal."""
     if any(request.spare):
         return Refusal(mesh, request, 12, rules.REFUSALS[12])  # the request record of `routes`; a call has no such bytes
     asked = (request.source, request.terminal, request.reach, request.allowance)
     if not all(0 <= number < 2**32 for number in asked):  # a call would carry another number
         ranges = f"nodes are {rules.NODE_RANGE}, the reach {rules.REACH_RANGE}, the allowance {rules.ALLOWANCE_RANGE}"
         raise InputFault(f"the request has a number that no call can carry: {ranges}")
-    words = _words(store)
+    closed = records.put_closed(mesh.closed) if mesh.closed or request.apart else None
     entry = planner().plan_apart if request.apart else planner().plan
-    number, data = entry(records.put_table(mesh.arcs), *asked, records.put_closed(mesh.closed), store=words)
+    number, data = entry(records.put_table(mesh.arcs), *asked, closed)
     if number in rules.BEHIND_BLANK:  # a library before T-09 returns these for blank arcs too
         hold_reply(not mesh.blank, f"number {number}, though no risk is listed for some arc")
     if number in (rules.NONE_APART, rules.NONE_APART_YET):
         hold_reply(request.apart, f"number {number}, though any pair was asked for")
-    if number == rules.STORE_LONG:
-        hold_reply(words > rules.STORE_WORDS_MAX, f"number {number}, though {words:,} words were lent")
     if number not in VERDICTS:
         return _refusal(mesh, request, number)
     return _pair(mesh, request, number, records.get_reply(data))
-
-
-def _words(store):
-    if store is None:
-        return rules.STORE_WORDS_MAX
-    if store < 0:
-        raise InputFault(f"expected a store from {rules.STORE_RANGE}, found {store}")
-    return min(store, rules.STORE_WORDS_MAX + 1)  # any larger one is refused for its size alone: one word more says as much
 
 
 def _refusal(mesh, request, number):

@@ -81,7 +81,7 @@ def _give_up(stream):
 
 def _plan(options):
     mesh = _closed(options, _asked(options, _read_mesh(options.mesh)))
-    answers = [answer.plan(mesh, request, store=options.store) for request in mesh.requests]
+    answers = [answer.plan(mesh, request) for request in mesh.requests]
     status = max(_status(found) for found in answers)
     if options.json:
         return Done("".join(_as_json(found, options.why) for found in answers).encode(), status)
@@ -166,10 +166,6 @@ def _reach(word):
 
 def _allowance(word):
     return _option("--allowance", word, text.read_allowance)
-
-
-def _store(word):
-    return _option("--store", word, lambda line: line.number("a store", rules.STORE_WORDS_MAX, rules.STORE_RANGE))
 
 
 def _place(word):
@@ -297,8 +293,6 @@ def _parser():
     plan.add_argument("--apart", action="store_true", help=f"want a pair that {sheet.MEETS_NOWHERE}")
     plan.add_argument("--json", action="store_true", help="print one JSON object a request, each on a line of its own")
     plan.add_argument("--why", action="store_true", help="tell the least reach at which fewer would be shared")
-    store_help = f"lend the planner a store from {rules.STORE_RANGE}, the most where none is told: changes the time alone"
-    plan.add_argument("--store", type=_store, metavar="WORDS", help=store_help)
     plan.set_defaults(run=_plan)
 
     mend = commands.add_parser(

@@ -24,7 +24,7 @@ RELEASE = HERE.parents[2] / "release"  # where this package is run from the repo
 INSTALLED = HERE.parents[3]  # PREFIX/lib, where `make install` has put it
 TABLE_BYTES_MAX = 2048
 OUTPUT_BYTES = rules.MEND_BYTES_MAX  # of the mended table, and of the list: always enough
-PLAN, MEND, AROUND, APART, AROUND_STORED, APART_STORED = range(6)  # the kinds of case that host/serve answers
+PLAN, MEND, AROUND, APART = 0, 1, 2, 3  # the kinds of case that host/serve answers
 X86_64 = platform.machine() in ("x86_64", "AMD64")
 
 
@@ -52,48 +52,35 @@ class Loaded:
             library = ctypes.CDLL(str(path))
             self._plan, self._mend = library.feshangul_plan, library.feshangul_mend
             self._plan_around, self._plan_apart = library.feshangul_plan_around, library.feshangul_plan_apart
-            self._plan_stored, self._apart_stored = library.feshangul_plan_stored, library.feshangul_apart_stored
         except (OSError, AttributeError) as error:
             raise LibraryFault(f"the planner's library cannot be loaded: {error}") from None
-        buffer, words = [ctypes.c_char_p, ctypes.c_size_t], [ctypes.POINTER(ctypes.c_uint64), ctypes.c_size_t]
-        for entry, lent in (
-            (self._plan, buffer * 2),
-            (self._plan_around, buffer * 3),
-            (self._plan_apart, buffer * 3),
-            (self._plan_stored, buffer * 3 + words),
-            (self._apart_stored, buffer * 3 + words),
-        ):
+        self._plan.restype = ctypes.c_uint32
+        self._plan.argtypes = [ctypes.c_char_p, ctypes.c_size_t] * 2 + [ctypes.c_uint32] * 4
+        for entry in (self._plan_around, self._plan_apart):
             entry.restype = ctypes.c_uint32
-            entry.argtypes = lent + [ctypes.c_uint32] * 4
+            entry.argtypes = [ctypes.c_char_p, ctypes.c_size_t] * 3 + [ctypes.c_uint32] * 4
         self._mend.restype = _Mended
-        self._mend.argtypes = buffer * 3
+        self._mend.argtypes = [ctypes.c_char_p, ctypes.c_size_t] * 3
 
-    def plan(self, table, source, terminal, reach, allowance, closed=None, store=None):
-        """The number that feshangul_plan returns, and the reply that it leaves; with a closed set those of
-        feshangul_plan_around, and with a set and a store of so many words those of feshangul_plan_stored."""
-        asked = (source, terminal, reach, allowance)
+    def plan(self, table, source, terminal, reach, allowance, closed=None):
+        """The number that feshangul_plan returns, or with a closed set feshangul_plan_around, and the reply that it leaves."""
+        reply = ctypes.create_string_buffer(REPLY_BYTES)
+        asked = (reply, REPLY_BYTES, source, terminal, reach, allowance)
         if closed is None:
-            return _planned(self._plan, (table,), asked)
-        return _planned(self._plan_around if store is None else self._plan_stored, (table, closed), asked, store)
+            return self._plan(table, len(table), *asked), reply.raw
+        return self._plan_around(table, len(table), closed, len(closed), *asked), reply.raw
 
-    def plan_apart(self, table, source, terminal, reach, allowance, closed, store=None):
-        """The number that feshangul_plan_apart returns, with a store feshangul_apart_stored, and the reply that it leaves."""
-        asked = (source, terminal, reach, allowance)
-        return _planned(self._plan_apart if store is None else self._apart_stored, (table, closed), asked, store)
+    def plan_apart(self, table, source, terminal, reach, allowance, closed):
+        """The number that feshangul_plan_apart returns, and the reply that it leaves."""
+        reply = ctypes.create_string_buffer(REPLY_BYTES)
+        asked = (reply, REPLY_BYTES, source, terminal, reach, allowance)
+        return self._plan_apart(table, len(table), closed, len(closed), *asked), reply.raw
 
     def mend(self, table):
         """The number that feshangul_mend returns, the mended table, and the list of what was changed or lost."""
         mended, listed = ctypes.create_string_buffer(OUTPUT_BYTES), ctypes.create_string_buffer(OUTPUT_BYTES)
         found = self._mend(table, len(table), mended, OUTPUT_BYTES, listed, OUTPUT_BYTES)
         return found.number, mended.raw[: found.table_len], listed.raw[: found.list_len]
-
-
-def _planned(entry, inputs, asked, store=None):
-    reply = ctypes.create_string_buffer(REPLY_BYTES)
-    lent = [part for data in inputs for part in (data, len(data))] + [reply, REPLY_BYTES]
-    if store is not None:
-        lent += (ctypes.c_uint64 * store)(), store  # made for this call alone, since another may run at the same time
-    return entry(*lent, *asked), reply.raw
 
 
 class Served:
@@ -114,23 +101,18 @@ class Served:
         self._program.stdout.close()
         self._program.wait()
 
-    def plan(self, table, source, terminal, reach, allowance, closed=None, store=None):
+    def plan(self, table, source, terminal, reach, allowance, closed=None):
         """As Loaded.plan."""
-        asked = (source, terminal, reach, allowance)
-        if closed is None:
-            return self._planned(PLAN, (table,), asked)
-        return self._planned(AROUND if store is None else AROUND_STORED, (table, closed), asked, store)
+        return self._planned(PLAN if closed is None else AROUND, table, closed, (source, terminal, reach, allowance))
 
-    def plan_apart(self, table, source, terminal, reach, allowance, closed, store=None):
+    def plan_apart(self, table, source, terminal, reach, allowance, closed):
         """As Loaded.plan_apart."""
-        asked = (source, terminal, reach, allowance)
-        return self._planned(APART if store is None else APART_STORED, (table, closed), asked, store)
+        return self._planned(APART, table, closed, (source, terminal, reach, allowance))
 
-    def _planned(self, kind, inputs, asked, store=None):
+    def _planned(self, kind, table, closed, asked):
         # Any longer table is refused for its length alone, so one byte more than the most says as much.
-        inputs = (inputs[0][: TABLE_BYTES_MAX + 1], *inputs[1:])
-        words = () if store is None else (store,)
-        numbers = (kind, *map(len, inputs), REPLY_BYTES, *words, *asked)
+        inputs = [data for data in (table[: TABLE_BYTES_MAX + 1], closed) if data is not None]
+        numbers = (kind, *map(len, inputs), REPLY_BYTES, *asked)
         answer = self._ask(struct.pack(f"<{len(numbers)}I", *numbers) + b"".join(inputs), 4 + REPLY_BYTES)
         return struct.unpack_from("<I", answer)[0], answer[4:]
 

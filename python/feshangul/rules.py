@@ -10,7 +10,6 @@ SHARED_MAX = RISKS + NODES - 1  # every risk, and a span for each of the 31 arcs
 ALLOWANCE_MAX = 1_000_000
 RECORD_BYTES = 16  # an arc, a request, or a change that the mender lists
 CLOSED_BYTES = ARCS // 8  # a closed set: one bit for each number that an arc may have
-STORE_WORDS_MAX = 8192  # of 64 bits, in which the planner may remember partial routes
 MEND_BYTES_MAX = 4096  # of a table that is mended
 
 # What makes sense in each field, as messages say it; most fields of a record hold more.
@@ -21,14 +20,12 @@ METRES_RANGE = f"0 to {ARC_METRES_MAX:,} m"
 SPAN_RANGE = f"0 to {SPAN_MAX:,}"
 REACH_RANGE = f"0 to {REACH_MAX:,} m"
 ALLOWANCE_RANGE = f"1 to {ALLOWANCE_MAX:,}"
-STORE_RANGE = f"0 to {STORE_WORDS_MAX:,} words"
 
 SETTLED = 0
 STOPPED = 1
 NO_ROUTE = 10
 NONE_APART, NONE_APART_YET = 14, 15  # of a request for a pair apart: there is none, or none with its main within the allowance
 CLOSED_FAULT = 16
-STORE_LONG = 26
 
 # The faults of an arc; returned as one of these and REASONS times the arc's number.
 ARC_FAULTS = ARC_NODE, ARC_ENDS, ARC_LENGTH = 20, 21, 22
@@ -39,7 +36,6 @@ REFUSALS = {
     2: f"the table has more than {ARCS} arcs",
     3: "the table is no whole number of arcs",
     4: "the reply buffer is under 96 bytes",
-    STORE_LONG: f"the store is over {STORE_WORDS_MAX:,} words: lend that many, or fewer",
     5: f"source or terminal is no node: nodes are {NODE_RANGE}",
     6: "source and terminal are the same node",
     7: f"the reach is over {REACH_MAX:,} m",

@@ -20,11 +20,6 @@ EXAMPLES = REPOSITORY / "examples"
 COMMAND = REPOSITORY / "bin/feshangul"
 RELEASE = REPOSITORY / "release"
 
-# The entries of the library, in the order in which releases brought them.
-ENTRIES = tuple(
-    f"feshangul_{name}" for name in ("plan", "mend", "plan_around", "plan_apart", "plan_stored", "apart_stored")
-)
-
 # Mesh A as bytes, written out by hand: the request, then arcs 0 to 4.
 A_HEX = (
     "0003000010270000e803000000000000"

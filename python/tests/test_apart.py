@@ -19,7 +19,6 @@ from feshangul.mesh import Arc, Mesh, Request
 from .shared import (
     A_HEX,
     A_SHEET,
-    ENTRIES,
     EXAMPLES,
     RELEASE,
     CommandTest,
@@ -328,8 +327,10 @@ class Replies(unittest.TestCase):
 
 
 class Library(unittest.TestCase):
+    ENTRIES = ("plan", "mend", "plan_around", "plan_apart")
+
     def test_the_call_is_that_of_the_header(self):
-        entries = {name: mock.Mock(return_value=15) for name in ENTRIES}
+        entries = {f"feshangul_{name}": mock.Mock(return_value=15) for name in self.ENTRIES}
         with mock.patch("ctypes.CDLL", return_value=types.SimpleNamespace(**entries)):
             loaded = library.Loaded("libfeshangul.so")
         apart = entries["feshangul_plan_apart"]
@@ -338,7 +339,7 @@ class Library(unittest.TestCase):
         self.assertEqual(len(apart.argtypes), 10)
 
     def test_a_library_of_an_older_release_is_told(self):
-        old = types.SimpleNamespace(**{name: mock.Mock() for name in ENTRIES[:3]})
+        old = types.SimpleNamespace(**{f"feshangul_{name}": mock.Mock() for name in self.ENTRIES[:-1]})
         with mock.patch("ctypes.CDLL", return_value=old), self.assertRaises(LibraryFault) as raised:
             library.Loaded("libfeshangul.so")
         self.assertRegex(str(raised.exception), "^the planner's library cannot be loaded: .*feshangul_plan_apart")

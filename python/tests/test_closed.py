@@ -17,21 +17,7 @@ from feshangul.fault import InputFault, LibraryFault
 from feshangul.line import Line
 from feshangul.mesh import Arc, Mesh
 
-from .shared import (
-    A_HEX,
-    ENTRIES,
-    EXAMPLES,
-    RELEASE,
-    CommandTest,
-    Ran,
-    call,
-    damaged,
-    example,
-    partly_closed,
-    routes,
-    run,
-    small_mesh,
-)
+from .shared import A_HEX, EXAMPLES, RELEASE, CommandTest, Ran, call, damaged, example, partly_closed, routes, run, small_mesh
 
 A = text.read(example("A.txt"), "A.txt")
 A1 = A.requests[0]
@@ -486,8 +472,8 @@ class Replies(unittest.TestCase):
         with mock.patch("feshangul.answer.planner", return_value=fake):
             return answer.plan(A.with_closed(closed), A1), fake.plan.call_args[0]
 
-    def test_the_set_goes_to_the_planner_and_one_of_zeros_where_nothing_is_closed(self):
-        self.assertEqual(self.plan_with(0, G_REPLY, set())[1], (A_TABLE, *A_ASKED, bytes(16)))
+    def test_the_set_goes_to_the_planner_and_none_where_nothing_is_closed(self):
+        self.assertEqual(self.plan_with(0, G_REPLY, set())[1], (A_TABLE, *A_ASKED, None))
         self.assertEqual(self.plan_with(0, G_REPLY, {1})[1], (A_TABLE, *A_ASKED, b"\x02" + bytes(15)))
 
     def test_a_closed_arc_on_a_route_is_noticed(self):
@@ -506,7 +492,8 @@ class Replies(unittest.TestCase):
 
 class Library(unittest.TestCase):
     def test_where_nothing_is_closed_the_call_is_the_old_one(self):
-        entries = {name: mock.Mock(return_value=7) for name in ENTRIES}
+        names_of_entries = ("plan", "mend", "plan_around", "plan_apart")
+        entries = {f"feshangul_{name}": mock.Mock(return_value=7) for name in names_of_entries}
         with mock.patch("ctypes.CDLL", return_value=types.SimpleNamespace(**entries)):
             loaded = library.Loaded("libfeshangul.so")
         plan, around = entries["feshangul_plan"], entries["feshangul_plan_around"]

@@ -150,7 +150,6 @@ class HelpAndVersion(CommandTest):
                     "--apart",
                     "--json",
                     "--why",
-                    "--store WORDS",
                     "0 settled, 1 stopped, 2 usage or input, 3 refused",
                 ),
             ),
@@ -178,7 +177,7 @@ class HelpAndVersion(CommandTest):
                     self.assertIn(word, help_text)
 
     def test_version_is_that_of_the_header(self):
-        self.assertEqual(run("--version"), Ran(0, b"feshangul 0.10.0\n", b""))
+        self.assertEqual(run("--version"), Ran(0, b"feshangul 0.9.0\n", b""))
         header = (RELEASE / "feshangul.h").read_text(encoding="utf-8")
         self.assertIn(f'#define FESHANGUL_VERSION "{feshangul.__version__}"\n', header)
 
@@ -280,10 +279,6 @@ Refused, number 10: no route from source to terminal is within reach.
             ("--allowance: expected the allowance from 1 to 1,000,000, found 0", ("--allowance", "0")),
             ('--allowance: expected the allowance from 1 to 1,000,000, found "1000001"', ("--allowance", "1000001")),
             ('--allowance: expected the allowance from 1 to 1,000,000, found "-1"', ("--allowance=-1",)),
-            ('--store: expected a store from 0 to 8,192 words, found "8193"', ("--store", "8193")),
-            ('--store: expected a store from 0 to 8,192 words, found "-1"', ("--store=-1",)),
-            ('--store: expected a store from 0 to 8,192 words, found "all"', ("--store", "all")),
-            ('--store: expected the end of the line, found "KiB"', ("--store", "64KiB")),
             ("--request: expected 1 to 1, found 2", ("--request", "2")),
             ("--request: expected 1 to 1, found 0", ("--request", "0")),
             ('--request: expected a request\'s place from 1 on, found "x"', ("--request", "x")),
@@ -721,7 +716,6 @@ PLACES_ON_THE_LINE = (
     "plan MESH --allowance {}",
     "plan MESH --request {}",
     "plan MESH --closed {}",
-    "plan MESH --store {}",
     "plan MESH --json={}",
     "plan MESH --apart={}",
     "mend MESH {}",

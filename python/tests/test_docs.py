@@ -134,15 +134,6 @@ class Documents(unittest.TestCase):
             with self.subTest(field):
                 self.assertIn(f"`{field}`", table.split("`mend --json` prints")[0])
 
-    def test_the_numbers_in_formats_stand_in_the_order_of_the_header(self):
-        header = (REPOSITORY / "release/feshangul.h").read_text(encoding="utf-8")
-        section = header.split("/* ---- Numbers returned")[1].split("/* ---- The reply record")[0]
-        defined = [int(number) for number in re.findall(r"^#define FESHANGUL_\w+ (\d+)u$", section, re.MULTILINE)]
-        cells = [row[0].split(" plus ")[0] for row in rows("docs/FORMATS.md", "Numbers, and the order of checks")]
-        told = [int(number) for cell in cells for number in re.findall(r"\d+", cell)]
-        self.assertEqual(told, [number for number in defined if number != 13])  # which is the mender's
-        self.assertEqual(told[2:7], [2, 3, 4, 26, 5])
-
     def test_the_meshes_worked_in_rules_are_the_examples(self):
         for name, heading in (
             ("A.txt", "A mesh worked by hand"),

@@ -575,7 +575,7 @@ class Served(CommandTest):
             (1, case[:3]),
             (1, case[:15]),
             (1, case[:-1]),
-            (2, struct.pack("<I", 6)),
+            (2, struct.pack("<I", 4)),
             (2, struct.pack("<I", 2**32 - 1) + case),
             (2, struct.pack("<4I", 1, 65537, 16, 16)),
             (2, struct.pack("<4I", 1, 16, 65537, 16)),

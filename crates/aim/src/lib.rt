@@ -1,5 +1,7 @@
 // Where a window should end to hold as many routes as may still be ranked. What is found here only narrows a window, and any width is right:
 // no promise rests on it. Without it a stopped request would halve its way down to one length, with a sweep each time.
+#![tactic(auto)]
+
 ghost use Rattle.std.specs.Prelude.{◌+◌, ◌*◌, ◌≤◌, ◌<◌, ◌≡◌};
 ghost use Rattle.problem.specs.Table.{most_reach, most_allowance};
 ghost use Rattle.net.specs.Net.{Net, mesh_in};
@@ -125,7 +127,7 @@ fn count_from(
 }
 
 // The lengths among which the end is looked for, and how many routes from there on are still to be ranked.
-#[derive(Drop)]
+#[derive(Clone, Copy)]
 struct Stretch {
     from: u64,
     to: u64,
@@ -134,7 +136,7 @@ struct Stretch {
 }
 
 // The first length of the step in which the routes counted pass `left`, and how many are left there; none where they do not pass it.
-#[derive(Drop)]
+#[derive(Clone, Copy)]
 struct Picked {
     none: bool,
     from: u64,
@@ -205,7 +207,7 @@ fn closer(net: &[u64; net::SIZE], counts: &mut [u32; SIZE], s: Stretch) -> Stret
 }
 
 // Where the allowance ends, so far as is known, and how wide the next window is to be.
-#[derive(Drop)]
+#[derive(Clone, Copy)]
 pub struct Aim {
     pub width: u64,
     pub end: u64,

@@ -1,4 +1,6 @@
 // The arcs of a span table: read from their sixteen bytes, and looked over for faults and for blanks.
+#![tactic(auto)]
+
 ghost use Rattle.std.specs.Prelude.{◌≡◌, ◌+◌, ◌*◌, ◌≤◌, length};
 ghost use Rattle.problem.specs.Table.{most_table_bytes, arc_of, arcs_of, fault_of, arcs_number};
 ghost use Rattle.problem.specs.Blanks.{is_blank, blanks_number};

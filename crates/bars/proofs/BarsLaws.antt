@@ -48,27 +48,6 @@ module _ (m : Mesh) (word met last : ℕ) where
 
 -- ---- what the standbys that keep off it are
 
--- the lists that keep off barred nodes are the paths that meet none of them, but for the source
-pub unbarred_exactly : (m : Mesh) → LowHeads m.arcs → (off : Barred) (ls : List ℕ)
-    → Memᴰ ls (unbarred m off)
-    ↔ (IsPath m.arcs m.source m.terminal ls × ((h : ℕ) → Memᴰ h (nodes_from m.arcs m.source ls) → (m.source ≡ h → ⊥) → bit off.nodes h ≡ 0))
-unbarred_exactly m low off ls = (
-  λ x. let g = grown.0 (grow_out m.arcs m.terminal _ met m.source ls x) in (g.0, λ h y ne. sym (other h ne) ∙ g.1 h y ne),
-  λ p. into (grown.1 (p.0, λ h y ne. other h ne ∙ p.1 h y ne)),
-)
-  where
-    met : ℕ
-    met = with off.nodes m.source
-
-    other : (h : ℕ) → (m.source ≡ h → ⊥) → bit met h ≡ bit off.nodes h
-    other h ne = bit_with_other off.nodes m.source h (λ e. ne (sym e))
-
-    grown : Grown m.arcs m.terminal met m.source ls ↔ (IsPath m.arcs m.source m.terminal ls × ((h : ℕ) → Memᴰ h (nodes_from m.arcs m.source ls) → (m.source ≡ h → ⊥) → bit met h ≡ 0))
-    grown = grown_off m.arcs m.terminal m.source (bit_with_same off.nodes m.source) ls
-
-    into : Grown m.arcs m.terminal met m.source ls → Memᴰ ls (unbarred m off)
-    into g = grow_in m.arcs m.terminal _ (omega (arith, grown_short m.arcs m.terminal low g)) g
-
 -- what a mesh that is planned over has
 pub record Regular (m : Mesh) : Type 0 where
   pub few : length m.arcs ≤ most_in_table
@@ -153,6 +132,24 @@ module _ (m : Mesh) (r : Regular m) where
 
   pub last_arc : {ks : List ℕ} → IsWhole ks → last_of no_arc ks < no_arc
   last_arc p = omega (arith, way_arc m.arcs p.way (path_last p), r.few)
+
+  -- ---- keeping off nodes
+
+  -- the lists that keep off barred nodes are the paths that meet none of them, but for the source
+  pub unbarred_exactly : (off : Barred) (ls : List ℕ) → Memᴰ ls (unbarred m off) ↔ (IsWhole ls × ((h : ℕ) → Memᴰ h (nodes ls) → (m.source ≡ h → ⊥) → bit off.nodes h ≡ 0))
+  unbarred_exactly off ls = (λ x. let g = grown.0 (grow_out m.arcs m.terminal _ met m.source ls x) in (g.0, λ h y ne. sym (other h ne) ∙ g.1 h y ne), λ p. into (grown.1 (p.0, λ h y ne. other h ne ∙ p.1 h y ne)))
+    where
+      met : ℕ
+      met = with off.nodes m.source
+
+      other : (h : ℕ) → (m.source ≡ h → ⊥) → bit met h ≡ bit off.nodes h
+      other h ne = bit_with_other off.nodes m.source h (λ e. ne (sym e))
+
+      grown : Grown m.arcs m.terminal met m.source ls ↔ (IsWhole ls × ((h : ℕ) → Memᴰ h (nodes ls) → (m.source ≡ h → ⊥) → bit met h ≡ 0))
+      grown = grown_off m.arcs m.terminal m.source (bit_with_same off.nodes m.source) ls
+
+      into : Grown m.arcs m.terminal met m.source ls → Memᴰ ls (unbarred m off)
+      into g = grow_in m.arcs m.terminal _ (omega (arith, grown_short m.arcs m.terminal r.heads g)) g
 
   -- where nothing is barred they are all paths
   pub unbarred_all : unbarred m nothing_barred ≡ paths m
@@ -264,10 +261,10 @@ pub standbys_exactly : (only : Bool) (m : Mesh) → Regular m → {ks : List ℕ
     → (Memᴰ ls (unbarred m (barred_by_list only m ks)) × (last_of no_arc ls ≡ (barred_by_list only m ks).last → ⊥)) ↔ (IsPath m.arcs m.source m.terminal ls × (judges m only (pair (route_of m.arcs ks) (route_of m.arcs ls)) ≡ true))
 unfolding judges route_of barred_by
 standbys_exactly true m r {ks} main ls = (
-  λ o. let u = (unbarred_exactly m r.heads (off m r main) ls).0 o.0 in (u.0, (apart_exactly m ks ls).1 (keeps_apart m r main u.0 u.1 o.1)),
-  λ o. let k = apart_keeps m r main o.0 ((apart_exactly m ks ls).0 o.1) in ((unbarred_exactly m r.heads (off m r main) ls).1 (o.0, k.0), k.1),
+  λ o. let u = (unbarred_exactly m r (off m r main) ls).0 o.0 in (u.0, (apart_exactly m ks ls).1 (keeps_apart m r main u.0 u.1 o.1)),
+  λ o. let k = apart_keeps m r main o.0 ((apart_exactly m ks ls).0 o.1) in ((unbarred_exactly m r (off m r main) ls).1 (o.0, k.0), k.1),
 )
 standbys_exactly false m r {ks} main ls = (
-  λ o. (((unbarred_exactly m r.heads nothing_barred ls).0 o.0).0, refl),
-  λ o. ((unbarred_exactly m r.heads nothing_barred ls).1 (o.0, λ h y ne. bit_empty h), λ e. omega (arith, last_arc m r o.0, e)),
+  λ o. (((unbarred_exactly m r nothing_barred ls).0 o.0).0, refl),
+  λ o. ((unbarred_exactly m r nothing_barred ls).1 (o.0, λ h y ne. bit_empty h), λ e. omega (arith, last_arc m r o.0, e)),
 )

@@ -1,2 +1,1 @@
 pub mod BarsLaws
-pub mod AvoidLaws

@@ -1,5 +1,7 @@
 // The arcs of one tail, chained, so that a search at a node passes over the arcs that leave other nodes; and so the arcs of one head.
 // A byte for each node is its first arc, a byte behind them for each arc the next arc of the same end; the number of arcs ends a chain.
+#![tactic(auto)]
+
 ghost use Rattle.std.specs.Prelude.{◌≡◌, ◌≤◌, ◌<◌, length};
 ghost use Rattle.problem.specs.Table.{last_node, most_in_table, arcs_of};
 ghost use Rattle.chain.specs.Chain.{chain_size, first_in, next_in, end_of, Chain, Chainable};
@@ -9,7 +11,7 @@ use problem::{ARC_BYTES, Arc, MOST_IN_TABLE, NODES};
 pub const SIZE: usize = NODES + MOST_IN_TABLE;
 
 // By which end arcs are chained.
-#[derive(Drop)]
+#[derive(Clone, Copy)]
 pub enum End {
     Tail,
     Head,

@@ -1,33 +1,14 @@
-// The checks of a call before anything is planned: numbers 2 to 8, those of a faulty arc, that of a blank one, and 16, in their order (the lists of checks of the problem's specs/Reply.antt); and
-// 26, of a lent store, behind 4 (specs/Store.antt).
+// The checks of a call before anything is planned: numbers 2 to 8, those of a faulty arc, that of a blank one, and 16, in their order (the lists of checks of the problem's specs/Reply.antt).
+#![tactic(auto)]
+
 ghost use Rattle.std.specs.Prelude.{◌≡◌};
-ghost use Rattle.problem.specs.Reply.{first_number, size_checks, request_checks, plain_checks, refusal};
-ghost use Rattle.problem.specs.Store.{stored_refusal};
+ghost use Rattle.problem.specs.Reply.{first_number, request_checks, plain_checks, refusal};
 
 use problem::{
-    ARC_BYTES, CLOSED_SIZE, MOST_ALLOWANCE, MOST_REACH, MOST_STORE_WORDS, MOST_TABLE_BYTES,
-    REPLY_SIZE, Request,
+    ARC_BYTES, CLOSED_SIZE, MOST_ALLOWANCE, MOST_REACH, MOST_TABLE_BYTES, REPLY_SIZE, Request,
 };
 
 const LAST_NODE: u32 = problem::LAST_NODE as u32;
-
-const STORE_LONG: u32 = 26;
-
-// The first of the checks of the sizes of table and reply buffer that applies; 0 for none.
-fn size_refusal(table: &[u8], size: usize) -> u32
-    ensures { result ≡ first_number (size_checks table.now size) }
-{
-    if MOST_TABLE_BYTES < table.len() {
-        return 2;
-    }
-    if table.len() % ARC_BYTES != 0 {
-        return 3;
-    }
-    if size < REPLY_SIZE {
-        return 4;
-    }
-    0
-}
 
 // The first of the checks that look at the request alone that applies; 0 for none.
 fn request_refusal(q: Request) -> u32
@@ -58,9 +39,14 @@ fn request_refusal(q: Request) -> u32
 pub fn refusal(table: &[u8], size: usize, q: Request) -> u32
     ensures { result ≡ first_number (plain_checks table.now q size) }
 {
-    let of_sizes = size_refusal(table, size);
-    if of_sizes != 0 {
-        return of_sizes;
+    if MOST_TABLE_BYTES < table.len() {
+        return 2;
+    }
+    if table.len() % ARC_BYTES != 0 {
+        return 3;
+    }
+    if size < REPLY_SIZE {
+        return 4;
     }
     let of_request = request_refusal(q);
     if of_request != 0 {
@@ -90,18 +76,4 @@ pub fn refusal_around(table: &[u8], closed: &[u8], size: usize, q: Request) -> u
         return 16;
     }
     0
-}
-
-// The same of a call that lends so many words besides.
-pub fn refusal_stored(table: &[u8], closed: &[u8], size: usize, words: usize, q: Request) -> u32
-    ensures { result ≡ stored_refusal table.now closed.now q size words }
-{
-    if words <= MOST_STORE_WORDS {
-        return refusal_around(table, closed, size, q);
-    }
-    let of_sizes = size_refusal(table, size);
-    if of_sizes != 0 {
-        return of_sizes;
-    }
-    STORE_LONG
 }

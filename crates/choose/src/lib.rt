@@ -1,4 +1,6 @@
 // From the end of a run to the reply: the pair is known by its numbers alone until here, and its routes are looked for once.
+#![tactic(auto)]
+
 ghost use Rattle.std.specs.Prelude.{◌≡◌, ◌≤◌};
 ghost use Rattle.problem.specs.Table.{most_allowance};
 ghost use Rattle.problem.specs.Routes.{count, shorter};
@@ -25,7 +27,7 @@ const NONE_AT_ALL: u8 = 14;
 const NONE_YET: u8 = 15;
 
 // The verdict, how many routes were ranked, and the pair; where there is none, its number in place of the verdict.
-#[derive(Drop)]
+#[derive(Clone, Copy)]
 pub struct Choice {
     pub verdict: u8,
     pub ranked: u32,
@@ -58,14 +60,13 @@ fn count_shorter(
         best: 0,
         over: false,
     };
-    let mut none = [0; cores::NO_SHELF];
-    let s = sweep::sweep(net, store, &mut none, w, t);
+    let s = sweep::sweep(net, store, w, t);
     let u = s.tally;
     u.ranked
 }
 
 // A pair's numbers, read off its key: the standby's key, the main's metres and the standby's.
-#[derive(Drop)]
+#[derive(Clone, Copy)]
 struct Numbers {
     key: u64,
     main: u64,
@@ -86,7 +87,7 @@ fn read_off(best: u64) -> Numbers
 }
 
 // A pair, and how many routes of the main's length stand before the main.
-#[derive(Drop)]
+#[derive(Clone, Copy)]
 struct Pairing {
     main: Track,
     standby: Track,

@@ -1,4 +1,6 @@
 // A closed set (T-06): which arcs it closes, whether all of them are in the table, and a table written so that no route goes over them.
+#![tactic(auto)]
+
 ghost use Rattle.std.specs.Prelude.{◌≡◌, not, ◌+◌, ◌*◌, ◌≤◌, ◌<◌, ◌^◌, eqb, ltb, length};
 ghost use Rattle.problem.specs.Table.{last_node, most_in_table, most_table_bytes, arcs_of};
 ghost use Rattle.problem.specs.Closed.{closed_size, closed_in, is_open};
@@ -7,7 +9,7 @@ ghost use Rattle.closed.specs.Turned.{set_of, turned_at, turned_in};
 use problem::{ARC_BYTES, Request};
 
 // The arcs that are closed: the first 64 have their bits in one word, the others in another.
-#[derive(Drop)]
+#[derive(Clone, Copy)]
 pub struct Closed {
     pub low: u64,
     pub high: u64,

@@ -22,7 +22,7 @@ use Rattle.keys.specs.Keys.{raised}
 use Rattle.keys.proofs.BoundLaws.{raised_more}
 use Rattle.standby.specs.Ahead.{Quest, quest, NoneBelow, least_of}
 use Rattle.labels.specs.Labels.{Frame}
-use Rattle.bars.proofs.AvoidLaws.{milder_same, milder_nodes}
+use Rattle.standby.proofs.AvoidLaws.{milder_same, milder_nodes}
 use Rattle.standby.proofs.AheadLaws.{none_below_least, least_raised, none_below_core}
 use Rattle.cores.specs.Cores.{own_words, core_count_at, cores_from, core_words, core_count, place_of, core_main, core_nodes, CoreHolds, Sized, Stored, Covered, CoresKept, Placed, CorePut, Remembers}
 
@@ -54,23 +54,6 @@ module _ (net store : List ℕ) (main : Exposure) (off : Barred) (bound : ℕ) (
 pub core_below : (m : Mesh) (core : Exposure) (nodes : ℕ) {off : Barred} {x y : ℕ} → off ≡ barred nodes no_arc → y ≤ x → NoneBelow (quest m core off) x → NoneBelow (quest m core (barred nodes no_arc)) y
 core_below m core nodes {off} {x} {y} e h a =
     subst (λ (b : Barred). NoneBelow (quest m core b) y) e (none_below_core m core core off off (λ r. omega arith) (milder_same m off) h a)
-
--- ---- what a shelf says
-
-pub none_below_less : (q : Quest) {x y : ℕ} → y ≤ x → NoneBelow q x → NoneBelow q y
-none_below_less q h a = record { ahead = λ n. record { above = λ ks o l. omega (arith, (a.ahead n).above ks o l) } }
-
--- where none is below the bound, the bound is the least
-pub bound_least : (q : Quest) {bound least : ℕ} → bound ≤ least → NoneBelow q least → bound ≡ least_of q bound
-bound_least q h a = sym (none_below_least q (none_below_less q h a))
-
--- a key found with a smaller bound is the least with any larger one
-pub found_least : (q : Quest) {key bound top : ℕ} → bound ≤ top → key ≡ least_of q bound → key < bound → key ≡ least_of q top
-found_least q {bound = bound} {top = top} h e l = omega (arith, e, least_raised q {bound = bound} {top = top} h)
-
--- what lies behind the labels stays from one search to the next
-pub frame_then : {one two three : List ℕ} → Frame one two → Frame two three → Frame one three
-frame_then f g = record { size = g.size ∙ f.size; same = λ k h. g.same k h ∙ f.same k h }
 
 -- the bound that a search starts from may be raised
 pub least_unraised : (q : Quest) (bound metres : ℕ) {top key least : ℕ} → top ≡ raised bound metres → key ≡ least_of q top → least ≡ min bound key → least ≡ least_of q bound

@@ -10,7 +10,6 @@ use Rattle.net.specs.Search.{no_arc}
 use Rattle.bars.specs.Bars.{barred}
 use Rattle.standby.specs.Ahead.{quest, NoneBelow}
 use Rattle.labels.specs.Labels.{label_words}
-use Rattle.spread.specs.Shelf.{least_words}
 
 -- how many cores there are; what is counted so as to know when to learn one; then the cores, each an exposure, nodes and a bound
 abbrev pub core_count_at : ℕ
@@ -59,11 +58,6 @@ pub record Sized (store : List ℕ) : Type 0 where
 pub record Stored (net store : List ℕ) : Type 0 where
   pub sized : Sized store
   pub held : (j : ℕ) → j < core_count store → CoreHolds net store (place_of j)
-
--- a shelf on which a search may remember
-pub record Shelved (shelf : List ℕ) : Type 0 where
-  pub least : least_words ≤ length shelf
-  pub most : length shelf ≤ most_words
 
 -- the core at a place says that no standby that is asked for has a key below the bound: it asks no more of the main, and its bound is no smaller
 pub record Covers (store : List ℕ) (at : ℕ) (main : Exposure) (nodes bound : ℕ) : Type 0 where

@@ -1,23 +1,20 @@
 // What searches for standbys taught, remembered in a lent store behind the labels: cores. A core says that no standby of any main that is exposed to so much, and
 // bars such nodes, has a key below a bound; so a main that a core covers need not be searched for. Whatever a store remembers, the answers are the same.
+#![tactic(auto)]
+
 ghost use Rattle.std.specs.Prelude.{◌≡◌, true, ◌+◌, ◌≤◌, ◌<◌, length};
 ghost use Rattle.problem.specs.Table.{hazards, last_node};
 ghost use Rattle.net.specs.Net.{Net, mesh_in};
 ghost use Rattle.net.specs.Search.{no_arc};
 ghost use Rattle.bars.specs.Bars.{barred};
-ghost use Rattle.standby.specs.Standby.{EveryDoor};
 ghost use Rattle.standby.specs.Ahead.{quest, NoneBelow, least_of};
-ghost use Rattle.labels.specs.Labels.{label_words, Frame};
-ghost use Rattle.cores.specs.Cores.{cores_from, core_words, most_words, place_of, Sized, Stored, Shelved, Covers, Covered, CoresKept, Placed, CorePut, Remembers};
+ghost use Rattle.cores.specs.Cores.{cores_from, core_words, most_words, place_of, Sized, Stored, Covers, Covered, CoresKept, Placed, CorePut, Remembers};
 
 use bars::{Barred, NO_ARC};
 use problem::Exposure;
 
 // The words of the planner's own store.
 pub const OWN_WORDS: usize = labels::STORE_WORDS;
-
-// The words of a shelf that is none: too few to be of use.
-pub const NO_SHELF: usize = 1;
 
 // Behind the labels: how many cores there are; how many long searches were made, and how many nodes they went on from; how many nodes those went on from that
 // made cores smaller; then the cores, each an exposure, nodes and a bound.
@@ -37,9 +34,6 @@ const CORE_WORDS: usize = exposure::WORDS + 2;
 const LONG: u64 = 64;
 
 const EVERY: u64 = 4;
-
-// Behind a search that was so long, the next is made on the shelf.
-const SHELF_LONG: u64 = 256;
 
 // More is not counted.
 const MOST_COUNTED: u64 = 4294967296;
@@ -111,121 +105,20 @@ fn spend(store: &mut [u64])
     store[SPENT] = laws::sum_up_to(store[SPENT], work, MOST_COUNTED);
 }
 
-// Whether a shelf is of use: it has room and does not rest, and the last search was long. A short one is over before a shelf is cleared.
-fn is_shelved(store: &[u64; OWN_WORDS], shelf: &mut [u64]) -> bool
-    requires { label_words ≤ length store.now }
-    ensures { result ≡ true → Shelved shelf.new }
+// Standbys keep off these nodes, and may end with any arc.
+fn off_nodes(nodes: u64) -> Barred
+    ensures { result ≡ barred nodes no_arc }
 {
-    if shelf.len() < spread::USEFUL_WORDS {
-        return false;
+    Barred {
+        nodes: nodes,
+        last: NO_ARC,
     }
-    if spread::MOST_WORDS < shelf.len() {
-        return false;
-    }
-    if labels::work(store) < SHELF_LONG {
-        return false;
-    }
-    !spread::rests(shelf)
-}
-
-// A key below which there is no standby of such a main, by the shelf; the work is counted as that of any other search.
-fn bound_on_shelf(
-    net: &[u64; net::SIZE],
-    store: &mut [u64; OWN_WORDS],
-    shelf: &mut [u64],
-    main: Exposure,
-    door: u64,
-    off: Barred,
-    bound: u64,
-) -> u64
-    requires { Net net.now × (label_words ≤ length store.old) × EveryDoor (mesh_in net.now) main door × Shelved shelf.old }
-    ensures below { NoneBelow (quest (mesh_in net.now) main off) result }
-    ensures frame { Frame store.old store.new }
-{
-    let least = spread::none_below(net, shelf, main, door, off, bound);
-    labels::set_work(store, spread::take_work(shelf));
-    least
-}
-
-// The least of `bound` and the keys of all standbys of a main that is exposed to this, that keep off what is barred. Where long searches came before, the shelf is
-// asked first: below what it says there is none, so that only a standby of that key is left to be looked for.
-fn search(
-    net: &[u64; net::SIZE],
-    store: &mut [u64; OWN_WORDS],
-    shelf: &mut [u64],
-    main: Exposure,
-    door: u64,
-    off: Barred,
-    bound: u64,
-) -> u64
-    requires { Net net.now × (label_words ≤ length store.old) × EveryDoor (mesh_in net.now) main door }
-    ensures least { result ≡ least_of (quest (mesh_in net.now) main off) bound }
-    ensures below { NoneBelow (quest (mesh_in net.now) main off) result }
-    ensures frame { Frame store.old store.new }
-{
-    if !is_shelved(store, shelf) {
-        return plain::search(net, store, main, door, off, bound);
-    }
-    let least = bound_on_shelf(net, store, shelf, main, door, off, bound);
-    if bound <= least {
-        return bound;
-    }
-    let key = plain::search(net, store, main, door, off, least + 1);
-    if key <= least {
-        return key;
-    }
-    plain::search(net, store, main, door, off, bound)
-}
-
-// Whether a search without a shelf finds no standby below the bound.
-fn finds_none(
-    net: &[u64; net::SIZE],
-    store: &mut [u64; OWN_WORDS],
-    core: Exposure,
-    door: u64,
-    off: Barred,
-    bound: u64,
-) -> bool
-    requires { Net net.now × (cores_from ≤ length store.old) × EveryDoor (mesh_in net.now) core door }
-    ensures holds { result ≡ true → NoneBelow (quest (mesh_in net.now) core off) bound }
-    ensures kept { CoresKept store.old store.new }
-{
-    let key = plain::search(net, store, core, door, off, bound);
-    spend(store);
-    bound <= key
-}
-
-// Whether a core holds: no standby is below its bound. What the shelf says is enough, unless it gives up.
-fn still_holds(
-    net: &[u64; net::SIZE],
-    store: &mut [u64; OWN_WORDS],
-    shelf: &mut [u64],
-    core: Exposure,
-    nodes: u64,
-    bound: u64,
-) -> bool
-    requires { Net net.now × (cores_from ≤ length store.old) }
-    ensures holds { result ≡ true → NoneBelow (quest (mesh_in net.now) core (barred nodes no_arc)) bound }
-    ensures kept { CoresKept store.old store.new }
-{
-    let door = standby::door(net, core);
-    let off = bars::off_nodes(nodes);
-    if !is_shelved(store, shelf) {
-        return finds_none(net, store, core, door, off, bound);
-    }
-    let least = bound_on_shelf(net, store, shelf, core, door, off, bound);
-    if least == 0 {
-        return finds_none(net, store, core, door, off, bound);
-    }
-    spend(store);
-    bound <= least
 }
 
 // A core without r, if a search says that it holds without it.
 fn leave_out(
     net: &[u64; net::SIZE],
     store: &mut [u64; OWN_WORDS],
-    shelf: &mut [u64],
     core: Exposure,
     nodes: u64,
     bound: u64,
@@ -239,17 +132,25 @@ fn leave_out(
         return core;
     }
     let less = exposure::all_but(core, r);
-    if still_holds(net, store, shelf, less, nodes, bound) {
-        return less;
+    let key = plain::search(
+        net,
+        store,
+        less,
+        standby::door(net, less),
+        off_nodes(nodes),
+        bound,
+    );
+    spend(store);
+    if key < bound {
+        return core;
     }
-    core
+    less
 }
 
 // A part of the core that holds as well: each of what it is exposed to is left out in turn, where that does no harm.
 fn smaller_core(
     net: &[u64; net::SIZE],
     store: &mut [u64; OWN_WORDS],
-    shelf: &mut [u64],
     main: Exposure,
     nodes: u64,
     bound: u64,
@@ -261,7 +162,7 @@ fn smaller_core(
     let mut core = main;
     let mut r: u8 = 0;
     while r < problem::HAZARDS {
-        core = leave_out(net, store, shelf, core, nodes, bound, r);
+        core = leave_out(net, store, core, nodes, bound, r);
         r += 1;
     }
     core
@@ -271,7 +172,6 @@ fn smaller_core(
 fn leave_node(
     net: &[u64; net::SIZE],
     store: &mut [u64; OWN_WORDS],
-    shelf: &mut [u64],
     core: Exposure,
     nodes: u64,
     bound: u64,
@@ -285,17 +185,25 @@ fn leave_node(
         return nodes;
     }
     let fewer = sets::without(nodes, sets::with(0, v));
-    if still_holds(net, store, shelf, core, fewer, bound) {
-        return fewer;
+    let key = plain::search(
+        net,
+        store,
+        core,
+        standby::door(net, core),
+        off_nodes(fewer),
+        bound,
+    );
+    spend(store);
+    if key < bound {
+        return nodes;
     }
-    nodes
+    fewer
 }
 
 // Fewer nodes with which the core holds as well: each is left out in turn, where that does no harm. A core without nodes covers mains that go anywhere.
 fn fewer_nodes(
     net: &[u64; net::SIZE],
     store: &mut [u64; OWN_WORDS],
-    shelf: &mut [u64],
     core: Exposure,
     nodes: u64,
     bound: u64,
@@ -307,7 +215,7 @@ fn fewer_nodes(
     let mut left = nodes;
     let mut v: u8 = 0;
     while v <= problem::LAST_NODE {
-        left = leave_node(net, store, shelf, core, left, bound, v);
+        left = leave_node(net, store, core, left, bound, v);
         v += 1;
     }
     left
@@ -349,7 +257,6 @@ fn remember(store: &mut [u64], main: Exposure, nodes: u64, bound: u64)
 fn best(
     net: &[u64; net::SIZE],
     store: &mut [u64; OWN_WORDS],
-    shelf: &mut [u64],
     main: Exposure,
     off: Barred,
     bound: u64,
@@ -366,7 +273,7 @@ fn best(
     if bound <= keys::standby_key(door, shortest) {
         return bound;
     }
-    let key = search(net, store, shelf, main, door, off, bound);
+    let key = plain::search(net, store, main, door, off, bound);
     // What holds of the standbys that do not end with one arc says nothing of the others.
     if off.last != NO_ARC {
         return key;
@@ -374,8 +281,8 @@ fn best(
     if !is_due(store) {
         return key;
     }
-    let core = smaller_core(net, store, shelf, main, off.nodes, key);
-    let nodes = fewer_nodes(net, store, shelf, core, off.nodes, key);
+    let core = smaller_core(net, store, main, off.nodes, key);
+    let nodes = fewer_nodes(net, store, core, off.nodes, key);
     remember(store, core, nodes, key);
     key
 }
@@ -385,7 +292,6 @@ fn best(
 pub fn best_key(
     net: &[u64; net::SIZE],
     store: &mut [u64; OWN_WORDS],
-    shelf: &mut [u64],
     main: Exposure,
     off: Barred,
     bound: u64,
@@ -398,6 +304,6 @@ pub fn best_key(
         return 0;
     }
     let top = keys::raised(bound, net::lower(net, net::source(net)));
-    let key = best(net, store, shelf, main, off, top);
+    let key = best(net, store, main, off, top);
     laws::smaller(bound, key)
 }

@@ -1,23 +1,17 @@
--- The contracts of the exported entries, as they stand in src/lib.rt, are what the page of promises speaks of: `CalledAround`, of the entry that takes no closed set `Called`, of the one
--- whose pairs are apart `CalledApart`, and of the two that are lent a store `CalledStored`. A contract that says something else is refused here. Assumes nothing.
+-- The contracts of the exported entries, as they stand in src/lib.rt, are what the page of promises speaks of: `CalledAround`, of the entry that takes no closed set `Called`, and of the one
+-- whose pairs are apart `CalledApart`. A contract that says something else is refused here. Assumes nothing.
 use Prim.Native.Nat.{ℕ}
-use mathlib.Core.Bool.{true, false}
 use contract.Lifetimes.{Lfts}
 use borrow.Fn.Kinds.{Dens, ended_of}
 use denote.Triple.Clauses.{AtExit}
 use Rattle.problem.specs.Reply.{request}
 use Rattle.problem.specs.Calls.{CalledAround, CalledApart, Called}
-use Rattle.problem.specs.Store.{CalledStored}
 use Rattle.entry.proofs.feshangul_plan.Kinds as plan
 use Rattle.entry.proofs.feshangul_plan.Reads as plan-reads
 use Rattle.entry.proofs.feshangul_plan_around.Kinds as around
 use Rattle.entry.proofs.feshangul_plan_around.Reads as around-reads
 use Rattle.entry.proofs.feshangul_plan_apart.Kinds as apart
 use Rattle.entry.proofs.feshangul_plan_apart.Reads as apart-reads
-use Rattle.entry.proofs.feshangul_plan_stored.Kinds as stored
-use Rattle.entry.proofs.feshangul_plan_stored.Reads as stored-reads
-use Rattle.entry.proofs.feshangul_apart_stored.Kinds as apart-stored
-use Rattle.entry.proofs.feshangul_apart_stored.Reads as apart-stored-reads
 
 -- of a call with these arguments: the table, the request, what the buffer held and holds
 pub contract_called : (κs : Lfts 2) (args : Dens κs plan.ps) (number : ℕ) (exit : AtExit (ended_of 2 plan.ps plan.r) κs) → plan-reads.Post κs args number exit
@@ -32,15 +26,3 @@ contract_called_around κs args number exit c = c
 pub contract_called_apart : (κs : Lfts 3) (args : Dens κs apart.ps) (number : ℕ) (exit : AtExit (ended_of 3 apart.ps apart.r) κs) → apart-reads.Post κs args number exit
     → CalledApart args.0.now args.1.0.now (request args.1.1.1.0 args.1.1.1.1.0 args.1.1.1.1.1.0 args.1.1.1.1.1.1.0) args.1.1.0.now number exit.1.1.0.now
 contract_called_apart κs args number exit c = c
-
--- and with a lent store behind the reply buffer (T-12)
-pub contract_called_stored : (κs : Lfts 4) (args : Dens κs stored.ps) (number : ℕ) (exit : AtExit (ended_of 4 stored.ps stored.r) κs) → stored-reads.Post κs args number exit
-    → CalledStored false args.0.now args.1.0.now (request args.1.1.1.1.0 args.1.1.1.1.1.0 args.1.1.1.1.1.1.0 args.1.1.1.1.1.1.1.0) args.1.1.0.now
-    args.1.1.1.0.now number exit.1.1.0.now exit.1.1.1.0.now
-contract_called_stored κs args number exit c = c
-
-pub contract_called_apart_stored : (κs : Lfts 4) (args : Dens κs apart-stored.ps) (number : ℕ) (exit : AtExit (ended_of 4 apart-stored.ps apart-stored.r) κs)
-    → apart-stored-reads.Post κs args number exit
-    → CalledStored true args.0.now args.1.0.now (request args.1.1.1.1.0 args.1.1.1.1.1.0 args.1.1.1.1.1.1.0 args.1.1.1.1.1.1.1.0) args.1.1.0.now
-    args.1.1.1.0.now number exit.1.1.0.now exit.1.1.1.0.now
-contract_called_apart_stored κs args number exit c = c

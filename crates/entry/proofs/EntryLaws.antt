@@ -1,13 +1,11 @@
 -- From the ends of a call to the answer of the definitions. Assumes nothing.
 use mathlib.Core.Path.{◌≡◌, refl, sym, ap, ◌∙◌, subst}
 use mathlib.Core.Bool.{Bool, true, false}
-use mathlib.Core.List.{List, [], ◌++◌, append-nil}
+use mathlib.Core.List.{List, [], ◌++◌}
 use Prim.Native.Nat.{ℕ, zero, suc, ◌≤◌, ◌<◌}
 use native.Mathlib.Omega.{arith}
-use borrow.Author.Tests.{ltb-true, ltb-false}
-use lib.Dec.{leb, ltb}
-use lib.ListN.{length, drop, replicate}
-use lib.Seq.{drop-length}
+use lib.Dec.{leb}
+use lib.ListN.{length, drop}
 use Rattle.laws.specs.Choosing.{if◌then◌else◌}
 use Rattle.problem.specs.declared.Arc.{Arc}
 use Rattle.problem.specs.declared.Request.{Request}
@@ -17,18 +15,13 @@ use Rattle.problem.specs.Closed.{closed_in, none_closed, shut_in, planned_arcs}
 use Rattle.problem.specs.Routes.{Route}
 use Rattle.problem.specs.Pairs.{Pair, some_at}
 use Rattle.problem.specs.Apart.{judges}
-use Rattle.problem.specs.Reply.{mesh_over, mesh_of, Answer, refuse, after, reply_of, first_number, size_checks, plain_checks, refusal, Passed, planned, planned_unless, answer_among}
+use Rattle.problem.specs.Reply.{mesh_over, mesh_of, Answer, refuse, after, reply_of, first_number, plain_checks, refusal, Passed, planned, planned_unless, answer_among}
 use Rattle.problem.specs.Calls.{routes_of, CalledAmong}
 use Rattle.problem.proofs.ClosedLaws.{planned_unclosed}
-use Rattle.problem.proofs.ReplyLaws.{refusal_passed, passed_refusal, planned_some}
+use Rattle.problem.proofs.ReplyLaws.{passed_refusal, planned_some}
 use Rattle.problem.proofs.CallLaws.{WithPair, some_route, verdict_small}
 use Rattle.problem.proofs.SaidLaws.{reply_size_lem}
 use Rattle.problem.proofs.AroundLaws.{set_quiet, none_set}
-use Rattle.problem.specs.Store.{most_store_words, stored_refusal, answer_stored, clears, CalledStored}
-use Rattle.problem.proofs.FirstLaws.{or_next}
-use Rattle.problem.proofs.StoreLaws.{after_cleared, after_kept, planned_clears, fits_refusal, large_refusal, refused_keeps, stored_fits as stored_agrees}
-use Rattle.octets.specs.Puts.{Puts}
-use Rattle.octets.proofs.PutLaws.{puts_whole}
 use Rattle.track.specs.Track.{Fit, pair_in}
 use Rattle.choose.specs.declared.Choice.{Choice}
 use Rattle.choose.specs.Choose.{PairChosen, no_pair}
@@ -141,54 +134,3 @@ plain_planned table q {m} = subst (λ (arcs : List Arc). PlannedOver false (mesh
 pub around_planned : (only : Bool) (table closed : List ℕ) (q : Request) {set : ℕ} {m : Made} → set ≡ closed_in closed → PlannedOver only (mesh_over (shut_in set (marked_arcs table)) q) q.allowance m
     → PlannedOver only (mesh_of table closed q) q.allowance m
 around_planned only table closed q {m = m} = subst (λ (set : ℕ). PlannedOver only (mesh_over (shut_in set (marked_arcs table)) q) q.allowance m)
-
--- ---- a lent store
-
--- zeros put over a whole store are all that it holds
-pub cleared : {zeros store after : List ℕ} {n : ℕ} → length zeros ≡ length store → Puts zeros store 0 after n → after ≡ zeros
-cleared {zeros} {store} size p = puts_whole p ∙ ap (λ (l : List ℕ). zeros ++ l) (ap (λ (k : ℕ). drop k store) size ∙ drop-length store) ∙ append-nil zeros
-
--- as many zeros as there are words
-pub as_many : (n : ℕ) (store : List ℕ) {left : List ℕ} → left ≡ replicate n 0 → n ≡ length store → left ≡ replicate (length store) 0
-as_many n store e same = e ∙ ap (λ (k : ℕ). replicate k 0) same
-
-module _ (only : Bool) (table closed : List ℕ) (q : Request) (before store : List ℕ) where
-  -- a check that refuses leaves it, and the buffer, as they are
-  pub stored_refused : (n : ℕ) → n ≡ stored_refusal table closed q (length before) (length store) → (n ≡ 0 → ⊥) → CalledStored only table closed q before store n before store
-  unfolding answer_stored planned_unless after
-  stored_refused zero e h = absurd (h refl)
-  stored_refused (suc n) e h =
-      let is : answer_stored only table closed q (length before) (length store) ≡ refuse (suc n) = ap (λ (x : ℕ). planned_unless only x (planned_arcs table closed) q) (sym e) in
-      record {
-        number_is = ap (λ (x : Answer). x.number) (sym is);
-        buffer_is = ap (λ (x : Answer). after x before) (sym is);
-        store_is = sym (after_kept (suc n) store (ap clears e ∙ refused_keeps table closed q (length before) (length store) (λ z. h (e ∙ z))));
-      }
-
-  -- where none does, the store is not too large
-  pub stored_fits : stored_refusal table closed q (length before) (length store) ≡ 0 → length store ≤ most_store_words
-  unfolding or_next
-  stored_fits z = go (ltb most_store_words (length store)) refl
-    where
-      some : (n : ℕ) → or_next n 26 ≡ 0 → ⊥
-      some zero e = absurd (omega arith)
-      some (suc n) e = absurd (omega arith)
-
-      go : (b : Bool) → ltb most_store_words (length store) ≡ b → length store ≤ most_store_words
-      go true e = absurd (some (first_number (size_checks table (length before))) (sym (large_refusal table closed q (length before) (length store) (ltb-true most_store_words (length store) e)) ∙ z))
-      go false e = ltb-false most_store_words (length store) e
-
-  module _ (zero_told : stored_refusal table closed q (length before) (length store) ≡ 0) where
-    -- the checks of a call without a store have passed too
-    pub stored_passed : Passed table closed q (length before)
-    stored_passed = refusal_passed table closed q (length before) (sym (fits_refusal table closed q (length before) (length store) (stored_fits zero_told)) ∙ zero_told)
-
-    -- and what such a call gives is given here, with the store cleared
-    pub stored_given : {number : ℕ} {now left : List ℕ} → CalledAmong only table closed q before number now → left ≡ replicate (length store) 0 → CalledStored only table closed q before store number now left
-    stored_given {number} {now} {left} c e =
-        let same = stored_agrees table closed q (length before) (length store) only (stored_fits zero_told) in
-        record {
-          number_is = c.number_is ∙ ap (λ (x : Answer). x.number) (sym same);
-          buffer_is = c.buffer_is ∙ ap (λ (x : Answer). after x before) (sym same);
-          store_is = e ∙ sym (after_cleared number store (ap clears (c.number_is ∙ ap (λ (x : Answer). x.number) (is_planned only table closed q before stored_passed)) ∙ planned_clears _ _ q.allowance));
-        }

@@ -1,9 +1,10 @@
 // The planning entries, exported for C: each checks everything itself, plans, and writes the reply.
-ghost use Rattle.std.specs.Prelude.{◌≡◌, true, false, ◌≤◌, length, replicate};
+#![tactic(auto)]
+
+ghost use Rattle.std.specs.Prelude.{◌≡◌, true, ◌≤◌, length};
 ghost use Rattle.problem.specs.Table.{reply_size};
 ghost use Rattle.problem.specs.Reply.{request};
 ghost use Rattle.problem.specs.Calls.{CalledAmong, CalledAround, CalledApart, Called};
-ghost use Rattle.problem.specs.Store.{most_store_words, CalledStored};
 ghost use Rattle.net.specs.Net.{to_be};
 ghost use Rattle.track.specs.Track.{Fit};
 ghost use Rattle.entry.specs.Given.{Given};
@@ -67,42 +68,7 @@ fn plan_among(table: &[u8], closed: &[u8], reply: &mut [u8], q: Request, apart: 
         return n;
     }
     let set = closed::read(closed);
-    let mut shelf = [0; planner::NO_SHELF];
-    let made = planner::plan_around(table, &mut shelf, set, q, apart);
-    give(reply, made)
-}
-
-// Makes every word of a store zero.
-fn clear(store: &mut [u64])
-    requires { length store.old ≤ most_store_words }
-    ensures { store.new ≡ replicate (length store.old) 0 }
-{
-    let mut i = 0;
-    while i < store.len() {
-        store[i] = 0;
-        i += 1;
-    }
-}
-
-// The same with a store that the caller lends: it is cleared, unless a check has refused the call.
-fn plan_stored(
-    table: &[u8],
-    closed: &[u8],
-    reply: &mut [u8],
-    store: &mut [u64],
-    q: Request,
-    apart: u64,
-) -> u32
-    ensures { CalledStored (to_be apart) table.now closed.now q
-        reply.old store.old result reply.new store.new }
-{
-    let n = checks::refusal_stored(table, closed, reply.len(), store.len(), q);
-    if n != 0 {
-        return n;
-    }
-    let set = closed::read(closed);
-    let made = planner::plan_around(table, store, set, q, apart);
-    clear(store);
+    let made = planner::plan_around(table, set, q, apart);
     give(reply, made)
 }
 
@@ -149,53 +115,4 @@ pub extern "C" fn feshangul_plan_apart(
         allowance: allowance,
     };
     plan_among(table, closed, reply, q, 1)
-}
-
-// Plans as `feshangul_plan_around` does, with a store that the caller lends (T-12): from none to 8,192 words, whatever they hold. The number and the reply are the
-// same; 26 where there are more words.
-#[unsafe(no_mangle)]
-pub extern "C" fn feshangul_plan_stored(
-    table: &[u8],
-    closed: &[u8],
-    reply: &mut [u8],
-    store: &mut [u64],
-    source: u32,
-    terminal: u32,
-    reach: u32,
-    allowance: u32,
-) -> u32
-    ensures { CalledStored false table.now closed.now (request source terminal reach allowance)
-        reply.old store.old result reply.new store.new }
-{
-    let q = Request {
-        source: source,
-        terminal: terminal,
-        reach: reach,
-        allowance: allowance,
-    };
-    plan_stored(table, closed, reply, store, q, 0)
-}
-
-// Plans as `feshangul_plan_apart` does, with such a store.
-#[unsafe(no_mangle)]
-pub extern "C" fn feshangul_apart_stored(
-    table: &[u8],
-    closed: &[u8],
-    reply: &mut [u8],
-    store: &mut [u64],
-    source: u32,
-    terminal: u32,
-    reach: u32,
-    allowance: u32,
-) -> u32
-    ensures { CalledStored true table.now closed.now (request source terminal reach allowance)
-        reply.old store.old result reply.new store.new }
-{
-    let q = Request {
-        source: source,
-        terminal: terminal,
-        reach: reach,
-        allowance: allowance,
-    };
-    plan_stored(table, closed, reply, store, q, 1)
 }

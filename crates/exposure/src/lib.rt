@@ -1,5 +1,7 @@
 // What an arc or a route is exposed to, what two of them have in common, and how many that is: risks and spans (the problem's specs/Exposures.antt).
 // Where there are no spans, which is often, their two fields are not gone into.
+#![tactic(auto)]
+
 ghost use Rattle.std.specs.Prelude.{◌≡◌, ◌↔◌, true, ◌+◌, ◌≤◌, ◌<◌, ◌^◌, eqb, length};
 ghost use Rattle.std.specs.Int.Bits.{bit_and, bit_or};
 ghost use Rattle.std.specs.Int.Count.{ones_in};

@@ -27,7 +27,7 @@ use Rattle.net.specs.Search.{along, last_of}
 use Rattle.net.proofs.SearchLaws.{along_metres, along_exposure}
 use Rattle.bars.specs.declared.Barred.{Barred}
 use Rattle.bars.specs.Bars.{Avoids}
-use Rattle.bars.proofs.AvoidLaws.{grown_avoids}
+use Rattle.standby.proofs.AvoidLaws.{grown_avoids}
 use Rattle.labels.specs.Labels.{labelled_at, label_metres, label_exposure, Shorter, Cleared, Labelled}
 use Rattle.cores.specs.Cores.{Stored}
 use Rattle.cores.proofs.CoreLaws.{frame_kept, stored_kept}

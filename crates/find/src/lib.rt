@@ -1,5 +1,7 @@
 // Finds, in depth-first order, the first route of a wanted length that passes a test, and hands back its arcs. A lent store, in which searches for standbys
 // remember what they learn, is handed on to the test; the search for a standby itself leaves labels there.
+#![tactic(auto)]
+
 ghost use Rattle.std.specs.Prelude.{◌≡◌, true, false, ℕ, ◌+◌, ◌<◌, ◌≤◌, min, length};
 ghost use mathlib.Core.List.{Memᴰ};
 ghost use Rattle.problem.specs.Table.{last_node, most_arcs, most_reach, most_allowance};
@@ -23,7 +25,7 @@ const MOST_PASSED: u64 = problem::MOST_ALLOWANCE as u64;
 
 // What is wanted, a route of so many metres that keeps off what is barred: as a main, one whose best standby has the key; else a standby that has it, for a main
 // exposed to `main`.
-#[derive(Drop)]
+#[derive(Clone, Copy)]
 pub struct Want {
     pub metres: u64,
     pub key: u64,
@@ -33,7 +35,7 @@ pub struct Want {
 }
 
 // Whether the route was found, how many of the wanted length came before it, and the route. Only mains are counted: a search for a standby leaves routes out.
-#[derive(Drop)]
+#[derive(Clone, Copy)]
 pub struct Found {
     pub found: bool,
     pub passed: u64,
@@ -55,9 +57,7 @@ fn wanted(
 {
     if want.as_main {
         let off = bars::barred_by(net, route.met, last);
-        let mut none = [0; cores::NO_SHELF];
-        return cores::best_key(net, store, &mut none, route.exposure, off, want.key + 1)
-            == want.key;
+        return cores::best_key(net, store, route.exposure, off, want.key + 1) == want.key;
     }
     if last == want.off.last {
         return false;

@@ -1,5 +1,7 @@
 // What lies on every route, from which the floor is counted (01, Routes and their ranking).
-ghost use Rattle.std.specs.Prelude.{◌≡◌, true, ◌+◌, ◌≤◌, ◌<◌, max};
+#![tactic(auto)]
+
+ghost use Rattle.std.specs.Prelude.{◌≡◌, true, ◌+◌, ◌≤◌, ◌<◌, max, length};
 ghost use Rattle.problem.specs.Table.{last_node, arcs_of, hazards};
 ghost use Rattle.problem.specs.Exposures.{to_nothing};
 ghost use Rattle.problem.specs.Routes.{ranking};
@@ -20,14 +22,14 @@ const MOST_TURNS: u32 = 1000000;
 
 // What clearing holds, node by node: whether a way leads to the terminal, a length, and what no way found of at most that length avoids; each
 // other risk is avoided by one of these.
-#[derive(Drop)]
+#[derive(Clone, Copy)]
 struct Ways {
     entries: [Distance; problem::NODES],
     exposures: [Exposure; problem::NODES],
 }
 
 // After clearing: whether what the source is still exposed to is sure to lie on every way.
-#[derive(Drop)]
+#[derive(Clone, Copy)]
 struct Known {
     ways: Ways,
     sure: bool,

@@ -1,4 +1,6 @@
 // The judgement of pairs, and of the standbys of one main, as one number.
+#![tactic(auto)]
+
 ghost use Rattle.std.specs.Prelude.{◌≡◌, ◌-◌, ◌≤◌, ◌<◌, ◌^◌};
 ghost use Rattle.problem.specs.Table.{most_reach};
 ghost use Rattle.keys.specs.Keys.{standby_key, OfStandby, raised, shared_of, total_of, main_of, shared_room, bound_for, pair_of};

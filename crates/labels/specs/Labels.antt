@@ -47,11 +47,6 @@ pub record Frame (before after : List ℕ) : Type 0 where
   pub size : length after ≡ length before
   pub same : (k : ℕ) → label_words ≤ k → word_at after k ≡ word_at before k
 
--- so many nodes were gone on from
-pub record Worked (work : ℕ) (before after : List ℕ) : Type 0 where
-  pub is : word_at after work_at ≡ work
-  pub frame : Frame before after
-
 -- no node has a label
 pub record Cleared (before after : List ℕ) : Type 0 where
   pub none : word_at after labelled_at ≡ 0

@@ -1,9 +1,11 @@
 // Labels of nodes, which a search leaves in the first words of a store: how far, and exposed to what, it came to a node from which it has gone on. What they are good
 // for is told by those who leave them (`standby`, `find`). Behind them the store is its owner's.
+#![tactic(auto)]
+
 ghost use Rattle.std.specs.Prelude.{◌≡◌, true, ◌≤◌, length};
 ghost use Rattle.problem.specs.Table.{last_node};
 ghost use Rattle.net.specs.Net.{word_at};
-ghost use Rattle.labels.specs.Labels.{work_at, label_words, Known, Shorter, Worked, Cleared, Labelled};
+ghost use Rattle.labels.specs.Labels.{work_at, label_words, Known, Shorter, Cleared, Labelled};
 
 use problem::Exposure;
 
@@ -30,14 +32,6 @@ pub fn work(store: &[u64]) -> u64
     ensures { result ≡ word_at store.now work_at }
 {
     store[WORK]
-}
-
-// Says how much work a search was that left no labels.
-pub fn set_work(store: &mut [u64], work: u64)
-    requires { label_words ≤ length store.old }
-    ensures { Worked work store.old store.new }
-{
-    store[WORK] = work;
 }
 
 // Takes all labels away.

@@ -1,4 +1,6 @@
 // General definitions (specs/) and what is true of them (proofs/); and of two numbers the smaller, the larger, and the sum as far as is counted.
+#![tactic(auto)]
+
 ghost use Rattle.std.specs.Prelude.{◌≡◌, ◌+◌, min, max};
 
 pub fn smaller(a: u64, b: u64) -> u64

@@ -1,4 +1,6 @@
 // A checked table laid out in the words that searches walk over (crate net says which word stands where).
+#![tactic(auto)]
+
 ghost use Rattle.std.specs.Prelude.{◌≡◌, ℕ, ◌+◌, ◌*◌, ◌≤◌, ◌<◌, length};
 ghost use Rattle.problem.specs.Table.{most_table_bytes, arcs_of};
 ghost use Rattle.problem.specs.Exposures.{to_nothing};

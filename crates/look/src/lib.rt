@@ -1,4 +1,6 @@
 // What one arc is to a search from a node: the one question that every walk over routes asks, whatever it does with the routes.
+#![tactic(auto)]
+
 ghost use Rattle.std.specs.Prelude.{◌≡◌, ◌≤◌, ◌<◌, length};
 ghost use Rattle.problem.specs.Table.{most_reach};
 ghost use Rattle.net.specs.Net.{Net, arcs_in};
@@ -9,7 +11,7 @@ use net::Behind;
 use problem::Exposure;
 
 // An arc looked at.
-#[derive(Drop)]
+#[derive(Clone, Copy)]
 pub enum Leg {
     // Its head was met before.
     Met,

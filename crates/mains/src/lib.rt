@@ -1,4 +1,6 @@
 // A route tried as a main: with every standby that it does not bar, and counted in the tally. What is a pair, and what makes one better, is said here and not where routes are walked.
+#![tactic(auto)]
+
 ghost use Rattle.std.specs.Prelude.{◌≡◌, ◌≤◌};
 ghost use Rattle.problem.specs.Table.{most_reach};
 ghost use Rattle.net.specs.Net.{Net, mesh_in, apart_only};
@@ -13,7 +15,6 @@ use tally::Tally;
 fn best_with(
     net: &[u64; net::SIZE],
     store: &mut [u64; cores::OWN_WORDS],
-    shelf: &mut [u64],
     main: Behind,
     last: u64,
     best: u64,
@@ -24,7 +25,7 @@ fn best_with(
 {
     let bound = keys::bound_for(best, main.metres);
     let off = bars::barred_by(net, main.met, last);
-    let key = cores::best_key(net, store, shelf, main.exposure, off, bound);
+    let key = cores::best_key(net, store, main.exposure, off, bound);
     if key < bound {
         return keys::pair_of(main.metres, key);
     }
@@ -35,7 +36,6 @@ fn best_with(
 pub fn try_main(
     net: &[u64; net::SIZE],
     store: &mut [u64; cores::OWN_WORDS],
-    shelf: &mut [u64],
     cap: u64,
     main: Behind,
     last: u64,
@@ -56,6 +56,6 @@ pub fn try_main(
             over: true,
         };
     }
-    let best = best_with(net, store, shelf, main, last, t.best);
+    let best = best_with(net, store, main, last, t.best);
     tally::one_more(main.metres, best, t)
 }

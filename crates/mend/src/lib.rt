@@ -1,4 +1,6 @@
 // Tables from the field mended (T-01): a clean table, and the list of what was changed or lost. The mender's entry, exported for C, stands at the end.
+#![tactic(auto)]
+
 ghost use Rattle.std.specs.Prelude.{◌≡◌, [], ◌+◌, ◌≤◌, length};
 ghost use Rattle.laws.specs.Choosing.{if◌then◌else◌};
 ghost use Rattle.problem.specs.Reply.{first_number};
@@ -136,7 +138,7 @@ fn keep_arc(table: &mut [u8], at: usize, bytes: &[u8], r: Reason) -> usize
 // ---- All arcs
 
 // How far the mending is: how many of the arcs looked at stay, and the places behind what is written of table and list.
-#[derive(Drop)]
+#[derive(Clone, Copy)]
 struct Done {
     staying: usize,
     table: usize,
@@ -195,7 +197,7 @@ fn note_torn(input: &[u8], list: &mut [u8], at: usize) -> usize
 
 // What a call of the mender returns: a number, and how many bytes of table and list it has written.
 #[repr(C)]
-#[derive(Drop)]
+#[derive(Clone, Copy)]
 pub struct Mended {
     pub number: u32,
     pub table_len: u32,

@@ -1,4 +1,6 @@
 // What a search walks over, laid out in words, so that one slice is handed on from call to call; and what lies behind a search.
+#![tactic(auto)]
+
 ghost use Rattle.std.specs.Prelude.{◌≡◌, ◌+◌, ◌≤◌, ◌<◌, ◌^◌, length};
 ghost use Rattle.problem.specs.Table.{last_node, most_arc_metres, most_reach};
 ghost use Rattle.problem.specs.Exposures.{of_arc};
@@ -44,7 +46,7 @@ pub const NO_LENGTH: u64 = 1099511627776;
 
 // What lies behind a search that stands at a node: the nodes met, that one among them, the metres, and what the arcs are exposed to.
 // A search hands the three on one by one, which goes in registers; a route's end is handed the whole.
-#[derive(Drop)]
+#[derive(Clone, Copy)]
 pub struct Behind {
     pub met: u64,
     pub metres: u64,

@@ -1,5 +1,7 @@
 // Numbers read from bytes, and bytes and numbers put into a buffer, little-endian.
 // What is put begins at a place, and the place behind it is returned, where the next may go on.
+#![tactic(auto)]
+
 ghost use Rattle.std.specs.Prelude.{◌≡◌, [], ◌∷◌, ◌+◌, ◌*◌, ◌≤◌, ◌<◌, length};
 ghost use Rattle.problem.specs.Table.{number_at, bytes_of};
 ghost use Rattle.octets.specs.Puts.{Puts};

@@ -1,5 +1,7 @@
 // The best standby of a main. Where no arc has a span, risks alone are counted and handed on, which is quicker; all else is as in `standby`, whose search is asked
 // where there are spans.
+#![tactic(auto)]
+
 ghost use Rattle.std.specs.Prelude.{◌≤◌, ◌<◌, ◌≡◌, length};
 ghost use Rattle.problem.specs.Table.{most_reach, hazards};
 ghost use Rattle.net.specs.Net.{arcs_in, mesh_in, Net};
@@ -14,7 +16,7 @@ use bars::Barred;
 use labels::STORE_WORDS;
 use net::Behind;
 use problem::Exposure;
-use standby::{DOOR, Hop, MAIN_WORDS, RISKS};
+use standby::{DOOR, Hop, LAST, MAIN_WORDS, RISKS};
 
 // Exposed to these risks alone.
 fn by_risks(risks: u64) -> Exposure
@@ -57,7 +59,10 @@ fn look(
         return Hop::Passed;
     }
     if head == net::terminal(net) {
-        return standby::ending(main, i, key);
+        if i == main[LAST] {
+            return Hop::Passed;
+        }
+        return Hop::Ends(key);
     }
     let behind = Behind {
         met: sets::with(met, head as u8),

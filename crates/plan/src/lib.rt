@@ -1,4 +1,6 @@
 // Windows of lengths, one after the other: the tally of all routes shorter than some length grows until it says how the reply ends.
+#![tactic(auto)]
+
 ghost use Rattle.std.specs.Prelude.{◌≡◌, ◌≤◌};
 ghost use Rattle.problem.specs.Table.{most_reach, most_allowance};
 ghost use Rattle.net.specs.Net.{Net};
@@ -10,7 +12,7 @@ use sweep::Window;
 use tally::Tally;
 
 // How planning ends, and the tally then: settled by length; with all routes ranked; or at the allowance.
-#[derive(Drop)]
+#[derive(Clone, Copy)]
 pub enum Run {
     ByLength(Tally),
     AllRanked(Tally),
@@ -18,7 +20,7 @@ pub enum Run {
 }
 
 // Where to go on: the tally of all routes shorter than `cur`, and how wide the next window is to be.
-#[derive(Drop)]
+#[derive(Clone, Copy)]
 struct Next {
     tally: Tally,
     cur: u64,
@@ -26,7 +28,7 @@ struct Next {
 }
 
 // What one turn of the loop comes to.
-#[derive(Drop)]
+#[derive(Clone, Copy)]
 enum Turn {
     GoOn(Next),
     Stop(Run),
@@ -120,7 +122,6 @@ fn go_on(t: Tally, cur: u64, width: u64) -> Turn
 fn try_window(
     net: &[u64; net::SIZE],
     store: &mut [u64; cores::OWN_WORDS],
-    shelf: &mut [u64],
     allowance: u64,
     floor: u64,
     t: Tally,
@@ -138,7 +139,7 @@ fn try_window(
         hi: hi,
         cap: cap,
     };
-    let r = sweep::sweep(net, store, shelf, w, t);
+    let r = sweep::sweep(net, store, w, t);
     let u = r.tally;
     if !u.over {
         if is_met(u, floor) {
@@ -156,7 +157,6 @@ fn try_window(
 pub fn plan(
     net: &[u64; net::SIZE],
     store: &mut [u64; cores::OWN_WORDS],
-    shelf: &mut [u64],
     allowance: u64,
     floor: u64,
 ) -> Run
@@ -171,7 +171,7 @@ pub fn plan(
     // Aimed at in two places, an aim is called and not built in: its array of counts is off the stack when the pair's routes are looked for.
     let mut a = aim::take_aim(net, allowance, t.ranked, cur, width, net::NO_LENGTH);
     while cur <= reach {
-        match try_window(net, store, shelf, allowance, floor, t, cur, a.width) {
+        match try_window(net, store, allowance, floor, t, cur, a.width) {
             Turn::Stop(run) => {
                 return run;
             }

@@ -1,4 +1,6 @@
 // What plans a call whose checks have passed: from the table and the request to the floor and the pair, or to no route at all.
+#![tactic(auto)]
+
 ghost use Rattle.std.specs.Prelude.{◌≡◌, false, ◌%◌, ◌≤◌, ◌<◌, length, take};
 ghost use Rattle.problem.specs.Table.{most_table_bytes, most_allowance, arcs_of};
 ghost use Rattle.problem.specs.Spans.{marked_arcs};
@@ -13,11 +15,8 @@ use choose::Choice;
 use closed::Closed;
 use problem::Request;
 
-// The words of a shelf that is none.
-pub const NO_SHELF: usize = cores::NO_SHELF;
-
 // What planning makes of a call: whether there is a route, the floor, and what else a reply says, or that there is no pair.
-#[derive(Drop)]
+#[derive(Clone, Copy)]
 pub struct Made {
     pub found: bool,
     pub floor: u8,
@@ -41,7 +40,7 @@ fn nothing() -> Made
 
 // A call that is read into the words of a net: whether there is a route, and the floor. What reading takes, copies of the table among it, is off the stack
 // when the search begins.
-#[derive(Drop)]
+#[derive(Clone, Copy)]
 struct Ready {
     found: bool,
     floor: u8,
@@ -133,14 +132,14 @@ fn read_around(
     read_table(net, &around[0..table.len()], q, spanned, apart)
 }
 
-// Plans over a net that says some route, of which `floor` is the floor. What the shelf holds, and how large it is, only changes how soon.
-fn plan_net(net: &[u64; net::SIZE], shelf: &mut [u64], allowance: u32, floor: u8) -> Made
+// Plans over a net that says some route, of which `floor` is the floor.
+fn plan_net(net: &[u64; net::SIZE], allowance: u32, floor: u8) -> Made
     requires { Laid (apart_only net.now) (mesh_in net.now) net.now floor × (0 < allowance) × (allowance ≤ most_allowance) }
     ensures { PlannedOver (apart_only net.now) (mesh_in net.now) allowance result }
 {
     let most = allowance as u64;
     let mut store = [0; cores::OWN_WORDS];
-    let run = plan::plan(net, &mut store, shelf, most, floor as u64);
+    let run = plan::plan(net, &mut store, most, floor as u64);
     let choice = choose::choose(net, &mut store, most, run);
     Made {
         found: true,
@@ -162,13 +161,11 @@ pub fn plan_checked(table: &[u8], q: Request) -> Made
     if !ready.found {
         return nothing();
     }
-    let mut shelf = [0; NO_SHELF];
-    plan_net(&net, &mut shelf, q.allowance, ready.floor)
+    plan_net(&net, q.allowance, ready.floor)
 }
 
-// Plans one around the arcs that are closed: of every pair where `apart` is 0, else of those that are apart. The planner's own store serves in any case; a lent
-// shelf beside it, whatever it holds, may bring the same answer sooner.
-pub fn plan_around(table: &[u8], shelf: &mut [u64], set: Closed, q: Request, apart: u64) -> Made
+// Plans one around the arcs that are closed: of every pair where `apart` is 0, else of those that are apart.
+pub fn plan_around(table: &[u8], set: Closed, q: Request, apart: u64) -> Made
     requires { Checked table.now q }
     ensures { PlannedOver (to_be apart) (mesh_over (shut_in (set_of set) (marked_arcs table.now)) q) q.allowance result }
 {
@@ -177,5 +174,5 @@ pub fn plan_around(table: &[u8], shelf: &mut [u64], set: Closed, q: Request, apa
     if !ready.found {
         return nothing();
     }
-    plan_net(&net, shelf, q.allowance, ready.floor)
+    plan_net(&net, q.allowance, ready.floor)
 }

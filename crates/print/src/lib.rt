@@ -1,5 +1,7 @@
 // The text that the program `routes` prints for an answer (01, The program `routes`).
 // What is written goes into a buffer from a place on, and the place behind it is returned.
+#![tactic(auto)]
+
 ghost use Rattle.std.specs.Prelude.{◌≡◌, ◌∷◌, ◌++◌, ◌+◌, ◌-◌, ◌*◌, ◌≤◌, eqb, length, take, drop};
 ghost use Rattle.laws.specs.Choosing.{if◌then◌else◌};
 ghost use Rattle.problem.specs.Table.{reply_size};

@@ -280,10 +280,6 @@ module _ (only : Bool) (table closed : List ℕ) (q : Request) (size : ℕ) wher
   pub never_spare : (i : ℕ) → number ≡ 23 + 256 * i → ⊥
   never_spare i e = omega (arith, (of_blank (omega arith) (past_twenty i 23 (omega arith) (omega arith) e)).0)
 
-  -- nor of number 26, which is told of a lent store alone (T-12)
-  pub never_store : number ≡ 26 → ⊥
-  never_store e = omega (arith, (of_blank (omega arith) (past_twenty 0 26 (omega arith) (omega arith) e)).0)
-
   -- no number of the table is 9, or past 10 without an arc but for 16
   pub number_known : OfTable only number → Known number
   number_known of = go (ltb number 2) refl

@@ -7,11 +7,11 @@ use mathlib.Core.Logic.{◌⊎◌, ◌↔◌}
 use mathlib.Core.List.{List, [], Memᴰ}
 use Prim.Native.Nat.{ℕ, ◌+◌, ◌*◌, ◌/◌, ◌%◌, ◌≤◌, ◌<◌}
 use native.Mathlib.Omega.{arith}
-use lib.ListN.{length, get_or, take, drop, replicate}
+use lib.ListN.{length, get_or, take, drop}
 use Rattle.laws.specs.Choosing.{Pairwise}
 use lib.Seq.{take_at, take-append_seam, drop-append_seam}
 use Rattle.problem.specs.declared.Request.{Request}
-use Rattle.problem.specs.Table.{most_arcs, most_shared, most_reach, most_allowance, most_table_bytes, reply_size, Bytes, over, record_at, arcs_of}
+use Rattle.problem.specs.Table.{most_arcs, most_shared, most_reach, most_allowance, reply_size, Bytes, over, record_at, arcs_of}
 use Rattle.problem.specs.Routes.{Route, arc_at, metres_of, IsWay}
 use Rattle.problem.specs.Spans.{marked_arcs}
 use Rattle.problem.specs.Blanks.{Blank}
@@ -20,11 +20,9 @@ use Rattle.problem.specs.Pairs.{pair, shared_risks, shared_count, shared_spans, 
 use Rattle.problem.specs.Apart.{Apart}
 use Rattle.problem.specs.Reply.{mesh_over, mesh_of, Answer, ClosedSet, answer_among, after, shared_in, floor_in, shared_spans_in, ranked_in, main_metres_in, standby_metres_in, total_in, shared_risks_in, main_in, standby_in}
 use Rattle.problem.specs.Calls.{routes_of, RouteOf, WayOf, pair_made_of, pair_said, ApartWithin, allowing, Applies, Told, LowestFault, LowestBlank, answer_by_risks, answer_over_all, answer_with_blanks, ClosesAside, CalledAmong, CalledAround, CalledApart, Called}
-use Rattle.problem.specs.Store.{most_store_words, CalledStored}
 use Rattle.problem.specs.Mending.{most_field_bytes, Clean, mended_table, Change, mended_list, changes_in, old_number, rounded_up, Mending, mending, Mends, KeptAs, lost, Listed}
 use Rattle.problem.proofs.CallLaws.{low_number}
 use Rattle.problem.proofs.SaidLaws.{reply_size_lem}
-use Rattle.problem.proofs.StoreLaws as StoreLaws
 use Rattle.problem.proofs.MendCallLaws as MendCallLaws
 use Rattle.problem.proofs.Promises as promised
 
@@ -354,42 +352,6 @@ call_never_fourteen {table} {closed} {q} {before} c e = promised.never_fourteen 
 
 pub call_never_fifteen : {table closed : List ℕ} {q : Request} {before now : List ℕ} {number : ℕ} → CalledAround table closed q before number now → number ≡ 15 → ⊥
 call_never_fifteen {table} {closed} {q} {before} c e = promised.never_fifteen table closed q (length before) (sym c.number_is ∙ e)
-
--- ==== Request T-12, of calls that lend a store
-
--- what a call does with a store of up to 8,192 words, whatever it held, is what one without a store does: the agreement, once for the plain plan and for T-05. So every promise above holds of it
-pub stored_as_without : {only : Bool} {table closed : List ℕ} {q : Request} {before store now left : List ℕ} {number : ℕ} → CalledStored only table closed q before store number now left
-    → length store ≤ most_store_words → CalledAmong only table closed q before number now
-stored_as_without {only} {table} {closed} {q} {before} {store} c fits =
-    let same = promised.stored_agrees only table closed q (length before) (length store) fits in
-    record { number_is = c.number_is ∙ ap (λ (a : Answer). a.number) same; buffer_is = c.buffer_is ∙ ap (λ (a : Answer). after a before) same }
-
--- two calls that differ in the store alone, in its size and in what it held, return the same number and leave the same bytes
-pub stored_same : {only : Bool} {table closed : List ℕ} {q : Request} {before store other now later left rest : List ℕ} {first second : ℕ} → CalledStored only table closed q before store first now left
-    → CalledStored only table closed q before other second later rest → length store ≤ most_store_words → length other ≤ most_store_words → (second ≡ first) × (later ≡ now)
-stored_same c d fits too =
-    let a = stored_as_without c fits in
-    let b = stored_as_without d too in
-    (b.number_is ∙ sym a.number_is, b.buffer_is ∙ sym a.buffer_is)
-
-module _ {only : Bool} {table closed : List ℕ} {q : Request} {before store now left : List ℕ} {number : ℕ} (c : CalledStored only table closed q before store number now left) where
-  -- 26 exactly where more are lent, and neither 2 nor 3 nor 4 is told
-  pub call_twenty_six : (number ≡ 26) ↔ ((most_store_words < length store) × (length table ≤ most_table_bytes) × (length table % 16 ≡ 0) × (reply_size ≤ length before))
-  call_twenty_six = rw c.number_is (promised.twenty_six_exactly only table closed q (length before) (length store))
-
-  -- and then the reply buffer is as it was
-  pub call_twenty_six_keeps : number ≡ 26 → (now ≡ before) × (left ≡ store)
-  call_twenty_six_keeps e = (
-    c.buffer_is ∙ StoreLaws.told_untouched table closed q (length before) (length store) only (sym c.number_is ∙ e) before,
-    c.store_is ∙ promised.store_left number store (omega arith) (λ z. omega arith) (λ z. omega arith) (λ z. omega arith),
-  )
-
-  -- after an answer, 10, 14 or 15 every word is zero; after any other refusal the words are as they came
-  pub call_clears : (number < 2) ⊎ (number ≡ 10) ⊎ (number ≡ 14) ⊎ (number ≡ 15) → left ≡ replicate (length store) 0
-  call_clears o = c.store_is ∙ promised.store_cleared number store o
-
-  pub call_leaves : 2 ≤ number → (number ≡ 10 → ⊥) → (number ≡ 14 → ⊥) → (number ≡ 15 → ⊥) → left ≡ store
-  call_leaves two a b d = c.store_is ∙ promised.store_left number store two a b d
 
 -- ==== Request T-01, of calls of the mender
 

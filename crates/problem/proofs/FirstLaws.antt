@@ -47,16 +47,13 @@ append_refusing (Refusing.more f r) s = Refusing.more f (append_refusing r s)
 always : {test : Bool} {n : ℕ} {cs : List Check} → Refusing cs → Refusing (check test (suc n) ∷ cs)
 always {test} {n} r = Refusing.more {test = test} {n = suc n} (λ t z. omega (arith, z)) r
 
-pub sizes_refusing : (table : List ℕ) (size : ℕ) → Refusing (size_checks table size)
+sizes_refusing : (table : List ℕ) (size : ℕ) → Refusing (size_checks table size)
 unfolding size_checks
 sizes_refusing table size = always (always (always Refusing.none))
 
 pub request_refusing : (q : Request) → Refusing (request_checks q)
 unfolding request_checks
 request_refusing q = always (always (always (always Refusing.none)))
-
-pub sized_refusing : (table : List ℕ) (q : Request) (size : ℕ) → Refusing (size_checks table size ++ request_checks q)
-sized_refusing table q size = append_refusing (sizes_refusing table size) (request_refusing q)
 
 -- a check whose test asks whether its number is 0: that number is then what it tells
 own_refusing : {b : Bool} {n : ℕ} → (n ≡ 0 → b ≡ true) → Refusing (check (not b) n ∷ [])
@@ -86,7 +83,7 @@ module _ (table : List ℕ) where
 
   -- those before the blanks, and all of a call that brings no closed set
   pub early_refusing : (q : Request) (size : ℕ) → Refusing (size_checks table size ++ request_checks q ++ arc_checks table)
-  early_refusing q size = append_refusing (sized_refusing table q size) arcs_refusing
+  early_refusing q size = append_refusing (append_refusing (sizes_refusing table size) (request_refusing q)) arcs_refusing
 
   pub plain_refusing : (q : Request) (size : ℕ) → Refusing (plain_checks table q size)
   plain_refusing q size = append_refusing (early_refusing q size) blanks_refusing

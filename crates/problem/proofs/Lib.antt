@@ -20,7 +20,6 @@ pub mod FirstLaws
 pub mod RefusalLaws
 pub mod ReplyLaws
 pub mod CallLaws
-pub mod StoreLaws
 pub mod AroundLaws
 pub mod SaidLaws
 pub mod ApartCallLaws

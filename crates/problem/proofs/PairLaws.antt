@@ -23,9 +23,9 @@ use Rattle.problem.proofs.RankingLaws.{key_total, precedes_weak}
 
 -- ---- who is among the pairs
 
-pub pairs_in : {mains standbys : List Route} {m s : Route} → Memᴰ m mains → Memᴰ s standbys → Memᴰ (pair m s) (pairs_of mains standbys)
+pub pairs_in : {m s : Route} {mains standbys : List Route} → Memᴰ m mains → Memᴰ s standbys → Memᴰ (pair m s) (pairs_of mains standbys)
 unfolding pairs_of
-pairs_in {standbys = standbys} {m} {s} (Memᴰ.head e) q = Memᴰ.append_left _ (Memᴰ.cast (ap (λ (r : Route). pair r s) e) (Memᴰ.map (λ (r : Route). pair _ r) q))
+pairs_in {m} {s} {standbys = standbys} (Memᴰ.head e) q = Memᴰ.append_left _ (Memᴰ.cast (ap (λ (r : Route). pair r s) e) (Memᴰ.map (λ (r : Route). pair _ r) q))
 pairs_in {standbys = standbys} (Memᴰ.tail {x = x} p) q = Memᴰ.append_right (map (λ (r : Route). pair x r) standbys) (pairs_in p q)
 
 pub pairs_out : (mains standbys : List Route) {p : Pair} → Memᴰ p (pairs_of mains standbys) → Memᴰ p.main mains × Memᴰ p.standby standbys

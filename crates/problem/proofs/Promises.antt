@@ -10,7 +10,7 @@ use Prim.Native.Nat.{ℕ, ◌+◌, ◌*◌, ◌/◌, ◌%◌, ◌≤◌, ◌<◌
 use native.Mathlib.Nat.{zero-add}
 use native.Mathlib.Omega.{arith}
 use lib.Dec.{eqb, ltb}
-use lib.ListN.{length, get_or, take, drop, get_or-replicate, replicate}
+use lib.ListN.{length, get_or, take, drop, get_or-replicate}
 use lib.Seq.{ext_get_or}
 use borrow.Author.Tests.{ltb-true, ltb-false}
 use Rattle.laws.specs.Choosing.{Pairwise, lex_by}
@@ -20,7 +20,7 @@ use Rattle.problem.specs.declared.Exposure.{Exposure}
 use Rattle.problem.specs.declared.Fault.{Fault}
 use Rattle.problem.specs.declared.Fault.TheVariants.{Sound}
 use Rattle.problem.specs.declared.Request.{Request}
-use Rattle.problem.specs.Table.{last_node, most_arcs, risk_width, most_shared, most_reach, most_allowance, most_in_table, most_table_bytes, reply_size, Bytes, record_at, arcs_of, SoundArc, HasFault, fault_of, fault_number, all_sound}
+use Rattle.problem.specs.Table.{last_node, most_arcs, risk_width, most_shared, most_reach, most_allowance, most_in_table, reply_size, Bytes, record_at, arcs_of, SoundArc, HasFault, fault_of, fault_number, all_sound}
 use Rattle.problem.specs.Routes.{Mesh, arc_at, metres_of, exposure_of, nodes_from, IsWay, IsPath, IsRoute, FreeWay, Route, route_of, precedes}
 use Rattle.problem.specs.Spans.{mark, with_span, spanless, marked_arcs}
 use Rattle.problem.specs.Blanks.{Blank}
@@ -31,7 +31,6 @@ use Rattle.problem.specs.Apart.{Apart, lists_apart, judges}
 use Rattle.problem.specs.Reply.{mesh_over, mesh_of, refusal, ClosedSet, planned_unless, answer_among, answer_around, answer_apart, answer, after, verdict_in, shared_in, floor_in, shared_spans_in, ranked_in, main_metres_in, standby_metres_in, total_in, shared_risks_in, main_in, standby_in}
 use Rattle.problem.specs.Printed.{kilometres, text, printed, request_of, Unreadable, output}
 use Rattle.problem.specs.Mending.{most_field_bytes, Clean, whole_arcs, new_number, mended_table, Change, mended_list, changes_in, old_number, KeptAs, lost, Listed}
-use Rattle.problem.specs.Store.{most_store_words, answer_stored, store_after}
 use Rattle.problem.specs.Calls.{routes_of, RouteOf, WayOf, pair_made_of, pair_said, ApartWithin, allowing, Applies, Told, LowestFault, LowestBlank, answer_by_risks, answer_over_all, answer_with_blanks, ClosesAside}
 use Rattle.problem.proofs.FaultLaws as FaultLaws
 use Rattle.problem.proofs.ByteLaws as ByteLaws
@@ -49,7 +48,6 @@ use Rattle.problem.proofs.ApartLaws as ApartLaws
 use Rattle.problem.proofs.RefusalLaws.{unknown}
 use Rattle.problem.proofs.CallLaws as CallLaws
 use Rattle.problem.proofs.CallLaws.{WithPair, low_number, refused_told, answered_none, numbered, no_route_exactly, number_known}
-use Rattle.problem.proofs.StoreLaws as StoreLaws
 use Rattle.problem.proofs.SaidLaws as Said
 use Rattle.problem.proofs.ApartCallLaws as ApartCallLaws
 use Rattle.problem.proofs.PrintedLaws as Printed
@@ -656,36 +654,6 @@ module _ (table closed : List ℕ) (q : Request) (size : ℕ) where
   pub apart_as_plain : number table closed q size < 2 → Apart (mesh_of table closed q) (main_in (reply table closed q size)) (standby_in (reply table closed q size))
       → answer_apart table closed q size ≡ answer_around table closed q size
   apart_as_plain = ApartCallLaws.as_plain table closed q size
-
--- ==== Request T-12. "Let the caller lend a store of 64-bit words, from none to 8,192, where partial routes may be remembered so that worse ones are dropped early. Up to 8,192 words, its size
--- ==== and former content change no returned number and no reply byte. After an answer, or after 10, 14 or 15, all its words are zero; after any other refusal they are as they came. A full
--- ==== store only remembers less. It serves the plain plan and T-05, and the agreement is proved once for both. Refusals: 26 over 8,192 words, after 4."
--- `answer_stored` gives the number and the bytes of such a call: with `false` of every pair, with `true` of those that are apart. It does not speak of what the store held, so that changes nothing;
--- and of its size only by 26.
-
-module _ (only : Bool) (table closed : List ℕ) (q : Request) (size words : ℕ) where
-  -- up to 8,192 words the number and the bytes are those of the entry without a store; said once, of the plain plan and of T-05
-  pub stored_agrees : words ≤ most_store_words → answer_stored only table closed q size words ≡ answer_among only table closed q size
-  stored_agrees = StoreLaws.stored_fits table closed q size words only
-
-  -- 26 exactly where there are more, and neither 2 nor 3 nor 4 is told
-  pub twenty_six_exactly : ((answer_stored only table closed q size words).number ≡ 26)
-      ↔ ((most_store_words < words) × (length table ≤ most_table_bytes) × (length table % 16 ≡ 0) × (reply_size ≤ size))
-  twenty_six_exactly = StoreLaws.store_told table closed q size words only
-
-  -- any call that is not refused by it is answered as without a store, however many words are lent; and no call without one returns it
-  pub stored_otherwise : ((answer_stored only table closed q size words).number ≡ 26 → ⊥) → answer_stored only table closed q size words ≡ answer_among only table closed q size
-  stored_otherwise = StoreLaws.stored_otherwise table closed q size words only
-
-  pub never_twenty_six : (answer_among only table closed q size).number ≡ 26 → ⊥
-  never_twenty_six = CallLaws.never_store only table closed q size
-
--- after an answer, and after 10, 14 and 15, every word is zero; after any other number the words are as they came
-pub store_cleared : (number : ℕ) (store : List ℕ) → (number < 2) ⊎ (number ≡ 10) ⊎ (number ≡ 14) ⊎ (number ≡ 15) → store_after number store ≡ replicate (length store) 0
-store_cleared number store c = StoreLaws.after_cleared number store (StoreLaws.clears_after number c)
-
-pub store_left : (number : ℕ) (store : List ℕ) → 2 ≤ number → (number ≡ 10 → ⊥) → (number ≡ 14 → ⊥) → (number ≡ 15 → ⊥) → store_after number store ≡ store
-store_left number store two a b c = StoreLaws.after_kept number store (StoreLaws.keeps_after number two a b c)
 
 -- ==== Of any pair, and of any length
 

@@ -26,7 +26,7 @@ module _ (arcs : List Arc) where
   first_node v [] = Memᴰ.head refl
   first_node v (k ∷ ks) = Memᴰ.head refl
 
-  pub head_met : (v : ℕ) {k : ℕ} {ks : List ℕ} → Memᴰ k ks → Memᴰ (arc_at arcs k).head (nodes_from arcs v ks)
+  pub head_met : {k : ℕ} (v : ℕ) {ks : List ℕ} → Memᴰ k ks → Memᴰ (arc_at arcs k).head (nodes_from arcs v ks)
   unfolding nodes_from
   head_met v (Memᴰ.head {x = j} {xs = js} e) = Memᴰ.tail (Memᴰ.cast (ap (λ (i : ℕ). (arc_at arcs i).head) e) (first_node (arc_at arcs j).head js))
   head_met v (Memᴰ.tail {x = j} m) = Memᴰ.tail (head_met (arc_at arcs j).head m)
@@ -246,7 +246,7 @@ module _ (arcs : List Arc) (terminal : ℕ) where
       let other : (x : ℕ) → Memᴰ x (nodes_from arcs h ks) → at ≡ x → ⊥ = pairwise_head d in
       let new : bit met h ≡ 0 = f h (Memᴰ.tail (first_node arcs h ks)) (other h (first_node arcs h ks)) in
       step b (other terminal (way_end arcs w)) (opens_by met at (arc_at arcs k) t new)
-      (way_grown w (pairwise_tail d)
+      (way_grown {met = with met h} w (pairwise_tail d)
       (λ x m ne. rw (bit_with, ne_eqb x h (λ q. ne (sym q))) (omega (arith, f x (Memᴰ.tail m) (other x m)))))
 
   -- a list of arc numbers is grown from `source` exactly where it is a path that, but there, meets no node that was met

@@ -1,9 +1,8 @@
 -- The first of a list that has a number other than 0 (`first_told`): which it is, and the number told of it. Assumes nothing.
 use mathlib.Core.Path.{◌≡◌, refl, ap, ◌∙◌}
-use mathlib.Core.Logic.{◌⊎◌, inl, inr}
 use mathlib.Core.Bool.{Bool, true, false}
 use mathlib.Core.List.{List, [], ◌∷◌}
-use Prim.Native.Nat.{ℕ, zero, suc, ◌+◌, ◌*◌, ◌≤◌, ◌<◌, suc-le-suc}
+use Prim.Native.Nat.{ℕ, zero, suc, ◌+◌, ◌*◌, ◌<◌, suc-le-suc}
 use native.Mathlib.Nat.{not-suc-le-zero, le_of_suc-le-suc}
 use native.Mathlib.Omega.{arith}
 use lib.Dec.{eqb}
@@ -73,16 +72,3 @@ module _ {A : Type 0} (number : A → ℕ) (other : A) where
       go : First 0 l → (j : ℕ) → j < length l → number (get_or l j other) ≡ 0
       go (First.none f e) = f
       go (First.one k f is) = absurd (f.has (omega arith))
-
-  -- where no number but 0 is below a limit, none is told below it
-  pub told_from : (limit : ℕ) → ((a : A) → (number a ≡ 0) ⊎ (limit ≤ number a)) → (l : List A) → (first_told number 0 l ≡ 0) ⊎ (limit ≤ first_told number 0 l)
-  told_from limit each l = go (first 0 l)
-    where
-      from : (k : ℕ) → (number (get_or l k other) ≡ 0 → ⊥) → first_told number 0 l ≡ number (get_or l k other) + 256 * (0 + k) → (number (get_or l k other) ≡ 0) ⊎ (limit ≤ number (get_or l k other))
-          → (first_told number 0 l ≡ 0) ⊎ (limit ≤ first_told number 0 l)
-      from k has is (inl z) = absurd (has z)
-      from k has is (inr h) = inr (omega (arith, is, h))
-
-      go : First 0 l → (first_told number 0 l ≡ 0) ⊎ (limit ≤ first_told number 0 l)
-      go (First.none f z) = inl z
-      go (First.one k f is) = from k f.has is (each (get_or l k other))

@@ -11,7 +11,6 @@ use Rattle.problem.specs.Spans.{marked}
 use Rattle.problem.specs.Closed.{none_closed, planned_arcs}
 use Rattle.problem.specs.Routes.{mesh, Way, paths, FreeWay, free_lengths, shortest}
 use Rattle.problem.specs.Apart.{lists_apart}
-use Rattle.problem.specs.Store.{answer_stored, store_after}
 use Rattle.problem.specs.Reply.{request, Answer, answer_around, answer_apart, answer, refuse, shared_in, floor_in, ranked_in, total_in, shared_risks_in, main_in, standby_in}
 use Rattle.problem.specs.Calls.{WayOf, allowing, LowestFault}
 use Rattle.problem.specs.Mending.{mended_table, change_bytes, mended_list, change_in, changes_in, old_number, mending}
@@ -557,35 +556,6 @@ pub lists_apart_lem
     ≡ true ∷ true ∷ false ∷ false ∷ false ∷ true ∷ false ∷ false ∷ true ∷ []
 unfolding opened
 lists_apart_lem = refl
-
--- ---- T-12: a lent store
-
--- the number of words lent, and what the store then holds that held 7, 0 and 9; 8,192 words answer as none do, and one more is told behind 4 and before 5
-abbrev pub stored : (only : Bool) (table bytes : List ℕ) → (source reach allowance size words : ℕ) → Answer
-stored only table bytes source reach allowance size words = answer_stored only table (closing bytes) (request source 3 reach allowance) size words
-
-pub stored_answers
-    : stored false mesh_a [] 0 10000 1000 96 0
-    ∷ stored false mesh_a [] 0 10000 1000 96 8192
-    ∷ stored true mesh_a [] 0 10000 1 96 8192
-    ∷ stored true mesh_a (2 ∷ []) 0 10000 1000 96 255
-    ∷ stored false mesh_a (5 ∷ []) 0 10000 1000 96 512
-    ∷ stored false mesh_a [] 0 10000 1000 96 8193
-    ∷ stored true mesh_a [] 32 62000001 0 96 8193
-    ∷ stored false mesh_a [] 32 62000001 0 96 8192
-    ∷ stored false mesh_a [] 0 10000 1000 95 8193
-    ∷ stored false (take 79 mesh_a) [] 0 10000 1000 96 8193
-    ∷ stored false (replicate 2049 0) [] 0 10000 1000 95 8193
-    ∷ []
-    ≡ answer_a1 ∷ answer_a1 ∷ refuse 15 ∷ refuse 14 ∷ refuse 10 ∷ refuse 26 ∷ refuse 26 ∷ refuse 5 ∷ refuse 4 ∷ refuse 3 ∷ refuse 2 ∷ []
-unfolding opened
-stored_answers = refl
-
-pub store_states
-    : map (λ n. store_after n (7 ∷ 0 ∷ 9 ∷ [])) (0 ∷ 1 ∷ 10 ∷ 14 ∷ 15 ∷ []) ++ map (λ n. store_after n (7 ∷ 0 ∷ 9 ∷ [])) (2 ∷ 3 ∷ 4 ∷ 26 ∷ 5 ∷ 6 ∷ 7 ∷ 8 ∷ 20 ∷ 21 ∷ 22 ∷ 24 ∷ 16 ∷ 266 ∷ [])
-    ≡ replicate {A = List ℕ} 5 (0 ∷ 0 ∷ 0 ∷ []) ++ replicate {A = List ℕ} 14 (7 ∷ 0 ∷ 9 ∷ [])
-unfolding opened
-store_states = refl
 
 -- K: the kilometres of 0, 1, 1,000, 1,001 and 31,984 metres
 pub starred_K : map kilometres (0 ∷ 1 ∷ 1000 ∷ 1001 ∷ 31984 ∷ []) ≡ 0 ∷ 1 ∷ 1 ∷ 2 ∷ 32 ∷ []

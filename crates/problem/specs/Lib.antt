@@ -8,7 +8,6 @@ pub mod Pairs
 pub mod Apart
 pub mod Reply
 pub mod Calls
-pub mod Store
 pub mod Mending
 pub mod Printed
 pub mod Opened

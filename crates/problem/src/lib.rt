@@ -1,5 +1,7 @@
 // The kinds of data that the definitions and the code have in common, and the definitions' limits and the numbers of faults and reasons as the code has them (specs/Table.antt, specs/Mending.antt).
 // Everything else of this crate is definitions (specs/) and what is true of them (proofs/).
+#![tactic(auto)]
+
 ghost use Rattle.std.specs.Prelude.{◌≡◌};
 ghost use Rattle.problem.specs.Table.{fault_number};
 ghost use Rattle.problem.specs.Mending.{reason_number};
@@ -36,14 +38,11 @@ pub const MOST_FIELD_BYTES: usize = 4096;
 
 pub const REPLY_SIZE: usize = 96;
 
-// The most words that a lent store has (T-12).
-pub const MOST_STORE_WORDS: usize = 8192;
-
 // A route's places in the reply.
 pub const PLACES: usize = 32;
 
 // One direction of one span: the fields of a table's record of 16 bytes (01, The span table; T-03: the span's number, 0 where it is not known).
-#[derive(Drop)]
+#[derive(Clone, Copy)]
 pub struct Arc {
     pub tail: u8,
     pub head: u8,
@@ -53,7 +52,7 @@ pub struct Arc {
 }
 
 // What is wrong with an arc: the first that applies, in this order.
-#[derive(Drop)]
+#[derive(Clone, Copy)]
 pub enum Fault {
     Sound,
     Node,
@@ -74,7 +73,7 @@ pub fn fault_number(f: Fault) -> u32
 }
 
 // Why an arc of a table from the field is changed or lost in mending, or that it is neither.
-#[derive(Drop)]
+#[derive(Clone, Copy)]
 pub enum Reason {
     Unchanged,
     BadNode,
@@ -100,7 +99,7 @@ pub fn reason_number(r: Reason) -> u8
 
 // What an arc or a route is exposed to, and may have in common with another: its risks, bit r for risk r, and its spans, bit s - 1 for span s, the first 64 of them in
 // one field and the others in another. Asked through crate exposure alone; net and layout hold one in words, and the reply has the risks that two share.
-#[derive(Drop)]
+#[derive(Clone, Copy)]
 pub struct Exposure {
     pub risks: u64,
     pub low: u64,
@@ -108,7 +107,7 @@ pub struct Exposure {
 }
 
 // What a call asks for: two nodes, the longest that a route may be, and how many routes may be tried as main.
-#[derive(Drop)]
+#[derive(Clone, Copy)]
 pub struct Request {
     pub source: u32,
     pub terminal: u32,

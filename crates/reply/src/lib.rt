@@ -1,4 +1,6 @@
 // The reply record: 96 bytes, field after field (01, The reply record).
+#![tactic(auto)]
+
 ghost use Rattle.std.specs.Prelude.{◌≡◌, ◌++◌, ◌≤◌, length, drop};
 ghost use Rattle.problem.specs.Table.{reply_size};
 ghost use Rattle.problem.specs.Reply.{reply_of};

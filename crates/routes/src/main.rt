@@ -1,4 +1,6 @@
 // The program `routes`: a request and a table on standard input, three lines or a refusal on standard output.
+#![tactic(auto)]
+
 ghost use Rattle.std.specs.Prelude.{◌≡◌, ◌≤◌, length, drop};
 ghost use Rattle.problem.specs.Calls.{Called};
 ghost use Rattle.problem.specs.Printed.{request_of, faulty, output};

@@ -1,4 +1,6 @@
 // Sets as the bits of a u64: r is in the set where bit r is 1.
+#![tactic(auto)]
+
 ghost use Rattle.std.specs.Prelude.{◌≡◌, ◌<◌, ◌^◌, eqb, ltb};
 ghost use Rattle.laws.specs.Sets.{bit, with, without, Lowest};
 

@@ -1,4 +1,6 @@
 // The side table: for each node the shortest length to the terminal over arcs that are exposed to nothing banned (01, When a reply is settled).
+#![tactic(auto)]
+
 ghost use Rattle.std.specs.Prelude.{◌≡◌, true, ◌+◌, ◌≤◌, ◌<◌, ◌^◌, length};
 ghost use Rattle.problem.specs.Table.{last_node, nodes, most_in_table, arcs_of, all_sound};
 ghost use Rattle.problem.specs.Exposures.{of_arc, disjoint};
@@ -11,7 +13,7 @@ ghost use Rattle.side.specs.Relaxing.{Fits, is_nearer, nearer_of, relaxed_in, st
 use problem::{Arc, Exposure};
 
 // What the table says of a node: the shortest length, and whether the terminal can be reached at all.
-#[derive(Drop)]
+#[derive(Clone, Copy)]
 pub struct Distance {
     pub metres: u32,
     pub reached: bool,
@@ -93,7 +95,7 @@ fn nearest(entries: [Distance; problem::NODES], among: u64) -> u8
 }
 
 // The next free arc into a node. Where there is none, `found` is false and `arc` is the number of arcs.
-#[derive(Drop)]
+#[derive(Clone, Copy)]
 struct Free {
     found: bool,
     arc: usize,

@@ -1,5 +1,7 @@
 // The spans of a table, each known by the first arc that has its number (T-03; the problem's specs/Spans.antt): the table is written anew, with those marks in the place
 // of the numbers, so that what follows has at most 128 spans to tell apart.
+#![tactic(auto)]
+
 ghost use Rattle.std.specs.Prelude.{◌≡◌, true, false, ◌+◌, ◌*◌, ◌≤◌, ◌<◌, length};
 ghost use Rattle.problem.specs.Table.{most_table_bytes, arcs_of, over};
 ghost use Rattle.problem.specs.Spans.{first_with, mark};

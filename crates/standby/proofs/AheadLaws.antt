@@ -25,7 +25,7 @@ use Rattle.bars.specs.declared.Barred.{Barred}
 use Rattle.bars.specs.Bars.{start_barred, unbarred, Avoids}
 use Rattle.standby.specs.Standby.{offered}
 use Rattle.standby.specs.Ahead.{Quest, quest, key_by, Ahead, NoneBelow, least_of}
-use Rattle.bars.proofs.AvoidLaws.{Milder, avoids_milder, grown_avoids}
+use Rattle.standby.proofs.AvoidLaws.{Milder, avoids_milder, grown_avoids}
 
 -- ---- ahead
 

@@ -16,7 +16,7 @@ use Rattle.net.specs.declared.Behind.{Behind}
 use Rattle.net.specs.Search.{onto}
 use Rattle.standby.specs.declared.Hop.{Hop}
 use Rattle.standby.specs.declared.Hop.TheVariants.{Passed, Ends, Leads}
-use Rattle.standby.specs.Standby.{key_over, end_of, hop_of}
+use Rattle.standby.specs.Standby.{key_over, hop_of}
 
 abbrev tag : Hop → ℕ
 tag Passed = 0
@@ -43,18 +43,6 @@ shared_in Passed = 0
 shared_in (Ends k) = 0
 shared_in (Leads h e n) = n
 
--- ---- an arc into the terminal
-
-pub end_barred : {last i : ℕ} (key : ℕ) → i ≡ last → Passed ≡ end_of last i key
-unfolding end_of
-end_barred {last} {i} key e = rw (eq-eqb i last e)
-
-pub end_free : {last i key : ℕ} → (i ≡ last → ⊥) → Ends key ≡ end_of last i key
-unfolding end_of
-end_free {last} {i} ne = rw (ne_eqb i last ne)
-
--- ---- any arc
-
 module _ (m : Mesh) (lower : ℕ) (main : Exposure) (door last least : ℕ) (b : Behind) (i : ℕ) (a : Arc) where
   abbrev to : ℕ
   to = b.metres + a.metres + lower
@@ -72,7 +60,7 @@ module _ (m : Mesh) (lower : ℕ) (main : Exposure) (door last least : ℕ) (b :
   pub data Skips : Type 0 where
     met_before : bit b.met a.head ≡ 1 → Skips
     too_far : m.reach < to → Skips
-    no_better_lem : least ≤ key → Skips
+    no_better : least ≤ key → Skips
     barred_end : bit b.met a.head ≡ 0 → a.head ≡ m.terminal → i ≡ last → Skips
 
   -- a better standby may go over it
@@ -98,9 +86,13 @@ module _ (m : Mesh) (lower : ℕ) (main : Exposure) (door last least : ℕ) (b :
   unfolding hop_of
   hop_no_better n f g = rw (not_met n, le-ltb m.reach to f, le-leb least key g)
 
-  pub hop_ends : Opens → a.head ≡ m.terminal → hop ≡ end_of last i key
+  pub hop_barred : Opens → a.head ≡ m.terminal → i ≡ last → hop ≡ Passed
   unfolding hop_of
-  hop_ends o t = rw (not_met o.new, le-ltb m.reach to o.in_reach, lt-leb least key o.better, eq-eqb _ _ t)
+  hop_barred o t e = rw (not_met o.new, le-ltb m.reach to o.in_reach, lt-leb least key o.better, eq-eqb _ _ t, eq-eqb i last e)
+
+  pub hop_ends : Opens → a.head ≡ m.terminal → (i ≡ last → ⊥) → hop ≡ Ends key
+  unfolding hop_of
+  hop_ends o t ne = rw (not_met o.new, le-ltb m.reach to o.in_reach, lt-leb least key o.better, eq-eqb _ _ t, ne_eqb i last ne)
 
   pub hop_leads : Opens → (a.head ≡ m.terminal → ⊥) → hop ≡ Leads a.head (onto b a) shared
   unfolding hop_of
@@ -114,7 +106,7 @@ module _ (m : Mesh) (lower : ℕ) (main : Exposure) (door last least : ℕ) (b :
     leads : Opens → (a.head ≡ m.terminal → ⊥) → Looked (Leads a.head (onto b a) shared)
 
   looked : Looked hop
-  unfolding hop_of end_of
+  unfolding hop_of
   looked = go (eqb (bit b.met a.head) 1) refl (ltb m.reach to) refl (leb least key) refl (eqb a.head m.terminal) refl (eqb i last) refl
     where
       opening : eqb (bit b.met a.head) 1 ≡ false → ltb m.reach to ≡ false → leb least key ≡ false → Opens
@@ -128,7 +120,7 @@ module _ (m : Mesh) (lower : ℕ) (main : Exposure) (door last least : ℕ) (b :
           → Looked (if w then Passed else (if x then Passed else (if y then Passed else (if z then (if s then Passed else Ends key) else Leads a.head (onto b a) shared))))
       go true e x f y g z h s k = passed (met_before (eqb-true _ 1 e))
       go false e true f y g z h s k = passed (too_far (ltb-true m.reach to f))
-      go false e false f true g z h s k = passed (no_better_lem (leb-true least key g))
+      go false e false f true g z h s k = passed (no_better (leb-true least key g))
       go false e false f false g true h true k = passed (barred_end (opening e f g).new (eqb-true _ _ h) (eqb-true i last k))
       go false e false f false g true h false k = ends (opening e f g) (eqb-true _ _ h) (eqb-false i last k)
       go false e false f false g false h s k = leads (opening e f g) (eqb-false _ _ h)

@@ -22,7 +22,7 @@ use Rattle.bars.specs.declared.Barred.{Barred}
 use Rattle.bars.specs.Bars.{start_barred, unbarred, Avoids}
 use Rattle.standby.specs.Standby.{offered}
 use Rattle.standby.specs.Ahead.{Quest, quest, key_by, Onward, NoneBelow, least_of}
-use Rattle.bars.proofs.AvoidLaws.{avoids_part, avoids_last, avoids_listed}
+use Rattle.standby.proofs.AvoidLaws.{avoids_part, avoids_last, avoids_listed}
 use Rattle.standby.proofs.AheadLaws.{fold_less}
 
 module _ (q : Quest) (b : Behind) where

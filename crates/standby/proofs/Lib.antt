@@ -1,6 +1,7 @@
 pub mod SharedLaws
 pub mod DoorLaws
 pub mod HopLaws
+pub mod AvoidLaws
 pub mod OfferLaws
 pub mod AheadLaws
 pub mod LabelLaws

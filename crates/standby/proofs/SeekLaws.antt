@@ -169,7 +169,7 @@ module _ (net : List ℕ) (main : Exposure) (last : ℕ) (b : Behind) (at : ℕ)
             turn least store same_store (omega arith)
             (omega (arith, left_idle net (offered m main last) b at words g.place l least (λ ks w x. offer_far m main last (over net (offered m main last) b at i) least ks (omega arith))))
             (λ nodes k x h a s. (λ c d. ahead_far (asked nodes) lower low f, s))
-        go (Skips.no_better_lem f) =
+        go (Skips.no_better f) =
             turn least store same_store (omega arith)
             (omega (arith, left_idle net (offered m main last) b at words g.place l least (λ ks w x. offer_no_better m main last (over net (offered m main last) b at i) least _ _ ks x (shared_ahead hand.start.doors i l b.exposure w) f)))
             (λ nodes k x h a s. (no_better_over nodes k x (omega (arith, f)), s))

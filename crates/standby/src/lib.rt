@@ -1,5 +1,7 @@
 // The best standby of a main: the least key, shared count before metres, of all routes, found by a search that leaves out what cannot be better: by the doors, by
 // the lower bounds, and by labels that it leaves at the nodes it has gone on from.
+#![tactic(auto)]
+
 ghost use Rattle.std.specs.Prelude.{◌≡◌, ◌<◌, ◌≤◌, length};
 ghost use Rattle.problem.specs.Table.{hazards, most_reach};
 ghost use Rattle.problem.specs.Exposures.{of_arc, sharing};
@@ -7,7 +9,7 @@ ghost use Rattle.problem.specs.Routes.{arc_at};
 ghost use Rattle.net.specs.Net.{Net, arcs_in, mesh_in};
 ghost use Rattle.net.specs.Search.{behind};
 ghost use Rattle.labels.specs.Labels.{label_words, Frame};
-ghost use Rattle.standby.specs.Standby.{EveryDoor, main_in, door_of, last_barred, exposed_to, NewlyShared, end_of, hop_at, Seeking};
+ghost use Rattle.standby.specs.Standby.{EveryDoor, main_in, door_of, last_barred, exposed_to, NewlyShared, hop_at, Seeking};
 ghost use Rattle.standby.specs.Ahead.{quest, NoneBelow, least_of};
 ghost use Rattle.standby.specs.Sought.{Sought};
 
@@ -20,7 +22,7 @@ use problem::Exposure;
 const MOST_SHARED: u64 = problem::HAZARDS as u64;
 
 // An arc looked at.
-#[derive(Drop)]
+#[derive(Clone, Copy)]
 pub enum Hop {
     // No standby over it is better.
     Passed,
@@ -73,10 +75,10 @@ const HIGH: usize = 2;
 
 pub const DOOR: usize = 3;
 
-const LAST: usize = 4;
+pub const LAST: usize = 4;
 
 // The spans that lie behind a search, low and high, handed on by reference.
-pub const SPAN_WORDS: usize = 2;
+const SPAN_WORDS: usize = 2;
 
 // What the main is exposed to.
 pub fn main_exposure(main: &[u64; MAIN_WORDS]) -> Exposure
@@ -117,18 +119,8 @@ fn exposed(risks: u64, spans: &[u64; SPAN_WORDS]) -> Exposure
     }
 }
 
-// What arc i into the terminal is: the end of a better standby, of the key found, unless none may end with it.
-pub fn ending(main: &[u64; MAIN_WORDS], i: u64, found: u64) -> Hop
-    ensures { result ≡ end_of (last_barred main.now) i found }
-{
-    if i == main[LAST] {
-        return Hop::Passed;
-    }
-    Hop::Ends(found)
-}
-
 // What arc i is to the search for a standby of a key below `least`.
-pub fn look(
+fn look(
     net: &[u64],
     i: u64,
     main: &[u64; MAIN_WORDS],
@@ -159,7 +151,10 @@ pub fn look(
         return Hop::Passed;
     }
     if head == net::terminal(net) {
-        return ending(main, i, key);
+        if i == main[LAST] {
+            return Hop::Passed;
+        }
+        return Hop::Ends(key);
     }
     let e = exposure::joined(exposed(risks, spans), net::exposure(net, i));
     let on = Behind {

@@ -1,4 +1,6 @@
 // A sweep: every route of a window of lengths is handed to `mains` as a main, in whatever order it is met. It stores no route, and knows nothing of pairs.
+#![tactic(auto)]
+
 ghost use Rattle.std.specs.Prelude.{◌≡◌, ◌≤◌, ltb, length};
 ghost use Rattle.problem.specs.Table.{most_reach};
 ghost use Rattle.net.specs.Net.{Net, word_at, mesh_in, apart_only};
@@ -13,7 +15,7 @@ use problem::Exposure;
 use tally::Tally;
 
 // The routes of lo to hi metres are mains; after `cap` of them in all, the sweep gives up.
-#[derive(Drop)]
+#[derive(Clone, Copy)]
 pub struct Window {
     pub lo: u64,
     pub hi: u64,
@@ -21,7 +23,7 @@ pub struct Window {
 }
 
 // A tally, and the least length at which anything was cut off for passing the window's end.
-#[derive(Drop)]
+#[derive(Clone, Copy)]
 pub struct Swept {
     pub tally: Tally,
     pub cut: u64,
@@ -31,7 +33,6 @@ pub struct Swept {
 fn end_route(
     net: &[u64; net::SIZE],
     store: &mut [u64; cores::OWN_WORDS],
-    shelf: &mut [u64],
     w: Window,
     route: Behind,
     last: u64,
@@ -44,7 +45,7 @@ fn end_route(
     if route.metres < w.lo {
         return t;
     }
-    mains::try_main(net, store, shelf, w.cap, route, last, t)
+    mains::try_main(net, store, w.cap, route, last, t)
 }
 
 // A sweep under way in words, the window, the tally and the cut, so that one reference is handed on from call to call and no struct is copied.
@@ -91,7 +92,6 @@ fn meet_route(
     net: &[u64; net::SIZE],
     run: &mut [u64; RUN_WORDS],
     store: &mut [u64; cores::OWN_WORDS],
-    shelf: &mut [u64],
     route: Behind,
     last: u64,
 )
@@ -110,15 +110,14 @@ fn meet_route(
         best: run[BEST],
         over: false,
     };
-    let u = end_route(net, store, shelf, w, route, last, t);
+    let u = end_route(net, store, w, route, last, t);
     run[RANKED] = u.ranked;
     run[LAST] = u.last;
     run[BEST] = u.best;
     run[OVER] = flag(u.over);
 }
 
-// The sweep of what grows from `at`. What lies behind it is exposed to these risks and spans, handed on one by one, which is quicker than a struct of three; the
-// shelf, which only a long search is for, comes last and takes no register from them.
+// The sweep of what grows from `at`. What lies behind it is exposed to these risks and spans, handed on one by one, which is quicker than a struct of three.
 // Only a route's end passes the cap, so `over` is read after one and after a walk, and not at each arc.
 fn walk(
     net: &[u64; net::SIZE],
@@ -130,7 +129,6 @@ fn walk(
     risks: u64,
     low: u64,
     high: u64,
-    shelf: &mut [u64],
 )
     requires { Sweeping net.now (word_at run.old hi_at) at metres × UnderWay run.old × Stored net.now store.old }
     ensures walks { Walks net.now at (behind met metres (record { risks = risks; low = low; high = high })) run.old run.new }
@@ -151,7 +149,7 @@ fn walk(
                 cut_at(run, to);
             }
             Leg::Ends(route) => {
-                meet_route(net, run, store, shelf, route, k);
+                meet_route(net, run, store, route, k);
                 if 0 < run[OVER] {
                     return;
                 }
@@ -167,7 +165,6 @@ fn walk(
                     on.exposure.risks,
                     on.exposure.low,
                     on.exposure.high,
-                    shelf,
                 );
                 if 0 < run[OVER] {
                     return;
@@ -196,7 +193,6 @@ fn swept_in(run: [u64; RUN_WORDS]) -> Swept
 pub fn sweep(
     net: &[u64; net::SIZE],
     store: &mut [u64; cores::OWN_WORDS],
-    shelf: &mut [u64],
     w: Window,
     t: Tally,
 ) -> Swept
@@ -213,6 +209,6 @@ pub fn sweep(
     let source = net::source(net);
     let met = sets::with(0, source as u8);
     let mut run = [w.lo, w.hi, w.cap, t.ranked, t.last, t.best, 0, NO_LENGTH];
-    walk(net, &mut run, store, source, met, 0, 0, 0, 0, shelf);
+    walk(net, &mut run, store, source, met, 0, 0, 0, 0);
     swept_in(run)
 }

@@ -1,9 +1,11 @@
 // The tally of a run: what is known of the routes tried as main so far.
+#![tactic(auto)]
+
 ghost use Rattle.std.specs.Prelude.{◌≡◌, ◌<◌, ◌-◌, ◌^◌};
 ghost use Rattle.tally.specs.Tally.{counted};
 
 // How many routes were ranked, the length of the last main, the key of the best pair, and whether there was a main past the cap.
-#[derive(Drop)]
+#[derive(Clone, Copy)]
 pub struct Tally {
     pub ranked: u64,
     pub last: u64,

@@ -1,4 +1,6 @@
 // A route as the code holds it: made of nothing, extended by one arc.
+#![tactic(auto)]
+
 ghost use Rattle.std.specs.Prelude.{◌+◌, ◌<◌, ◌^◌};
 ghost use Rattle.problem.specs.Table.{most_arcs, most_in_table};
 ghost use Rattle.problem.specs.Pairs.{no_route};
@@ -7,7 +9,7 @@ ghost use Rattle.track.specs.Track.{route_in, Fit, Holds, onward};
 use problem::{Exposure, PLACES};
 
 // The arc numbers stand in the first `count` places, and 255 in the others.
-#[derive(Drop)]
+#[derive(Clone, Copy)]
 pub struct Track {
     pub arcs: [u8; PLACES],
     pub count: u8,

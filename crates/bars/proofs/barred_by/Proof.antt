@@ -31,12 +31,11 @@ returns_2 c =
 
 returns_3 : tie.Need-returns-3
 returns_3 c =
-    let f = c.before in
-    let o = f.before in
+    let o = c.before in
     let d = o.before in
     let e = d.before.before.before.before in
     let a = e.before in
-    c.off_nodes.ensures ∙ barred_nodes _ _ _ _ (λ z. e.if1.false (a.apart.ensures ∙ z)) (ends d) o.without.ensures f.if2.false
+    barred_nodes _ _ _ _ (λ z. e.if1.false (a.apart.ensures ∙ z)) (ends d) o.without.ensures c.if2.false
 
 pub barred_by_spec : {M : Type 1} → statement M
 barred_by_spec =
@@ -53,5 +52,4 @@ barred_by_spec =
     (λ c κs. search rules)
     (λ c κs. search rules)
     returns_2
-    (λ c κs. search rules)
     returns_3)

@@ -15,17 +15,16 @@ returns c =
 
 returns_2 : tie.Need-returns-2
 returns_2 c =
-    let k = c.before.before in
-    let s = k.before.before.before.before in
+    let k = c.before in
+    let s = k.before.before.before in
     let a = s.args in
-    swept_shorter _ (mesh_in a.net.now) a.metres a.cap k.before.before.before.if1.false s.requires.0.1 s.requires.0.2 _ k.sweep.result.tally refl refl k.sweep.ensures.0.tally_is
+    swept_shorter _ (mesh_in a.net.now) a.metres a.cap k.before.before.if1.false s.requires.0.1 s.requires.0.2 _ k.sweep.result.tally refl refl k.sweep.ensures.0.tally_is
 
 pub count_shorter_spec : {M : Type 1} → statement M
 count_shorter_spec =
     tie.close
     (tie.spec
     returns
-    (λ c. search rules)
     (λ c. search rules)
     (λ c κs. search rules)
     returns_2)

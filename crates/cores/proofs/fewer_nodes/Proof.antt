@@ -1,9 +1,6 @@
 -- `cores::fewer_nodes` meets its contract. The invariant: with the nodes that are left the core holds, and the cores of the store are as they were. Assumes nothing.
-use mathlib.Core.Path.{◌≡◌, refl}
-use lib.ListN.{length}
 use Prim.Native.Nat.{suc, ◌-◌, ◌≤◌}
 use native.Mathlib.Omega.{arith}
-use borrow.Author.Rules.{rules}
 use Rattle.problem.specs.Table.{last_node}
 use Rattle.net.specs.Net.{mesh_in}
 use Rattle.net.specs.Search.{no_arc}
@@ -15,25 +12,25 @@ use Rattle.cores.proofs.fewer_nodes.Statement.{statement}
 use Rattle.cores.proofs.fewer_nodes.Tie as tie
 
 abbrev invariant-loop : tie.invariant-loop
-invariant-loop net store₀ shelf₀ core nodes bound left₀ v₀ store shelf left v = (v ≤ suc last_node) × NoneBelow (quest (mesh_in net) core (barred left no_arc)) bound × CoresKept store₀ store × (length shelf ≡ length shelf₀)
+invariant-loop net store₀ core nodes bound left₀ v₀ store left v = (v ≤ suc last_node) × NoneBelow (quest (mesh_in net) core (barred left no_arc)) bound × CoresKept store₀ store
 
 abbrev decreases-loop : tie.decreases-loop
-decreases-loop net store₀ shelf₀ core nodes bound left₀ v₀ store shelf left v = suc last_node - v
+decreases-loop net store₀ core nodes bound left₀ v₀ store left v = suc last_node - v
 
 loop_holds : tie.Need-loop-init invariant-loop decreases-loop
-loop_holds c = (omega arith, c.before.requires.2, kept_same _, refl)
+loop_holds c = (omega arith, c.requires.2, kept_same _)
 
 leave_node_requires : tie.Need-leave-node-requires invariant-loop decreases-loop
 leave_node_requires c κs =
-    let l = c.before.before.before in
-    let s = l.before.before in
-    (s.requires.0, omega (arith, s.requires.1, l.loop.invariant.2.size_same), omega (arith, c.before.before.loop-test.true), l.loop.invariant.1)
+    let l = c.before.before in
+    let s = l.before in
+    (s.requires.0, omega (arith, s.requires.1, l.loop.invariant.2.size_same), omega (arith, c.before.loop-test.true), l.loop.invariant.1)
 
 loop_again : tie.Need-loop-preserved invariant-loop decreases-loop
 loop_again c =
-    let o = c.before.before.leave-node in
-    let i = c.before.before.before.before.before in
-    (omega (arith, i.loop-test.true), o.ensures.0, kept_then i.before.loop.invariant.2 o.ensures.1, search rules)
+    let o = c.leave-node in
+    let i = c.before.before in
+    (omega (arith, i.loop-test.true), o.ensures.0, kept_then i.before.loop.invariant.2 o.ensures.1)
 
 pub fewer_nodes_spec : {M : Type 1} → statement M
 fewer_nodes_spec =
@@ -43,8 +40,7 @@ fewer_nodes_spec =
     decreases-loop
     loop_holds
     leave_node_requires
-    (λ c. omega (arith, c.before.before.before.before.before.loop-test.true))
-    (λ c. omega (arith, c.before.before.before.before.before.loop-test.true))
+    (λ c. omega (arith, c.before.before.loop-test.true))
+    (λ c. omega (arith, c.before.before.loop-test.true))
     loop_again
-    (λ c. search rules)
     (λ c. (c.before.loop.invariant.1, c.before.loop.invariant.2)))

@@ -1,13 +1,20 @@
--- `cores::leave_out` meets its contract: what is left out does no harm where the core holds without it. Assumes nothing.
+-- `cores::leave_out` meets its contract: what is left out does no harm where the search without it finds nothing below the bound. Assumes nothing.
+use Rattle.cores.proofs.CoreLaws.{core_below, kept_then, frame_kept}
 use borrow.Author.Rules.{rules}
 use Rattle.cores.proofs.leave_out.Statement.{statement}
 use Rattle.cores.proofs.leave_out.Tie as tie
 
-left_out : tie.Need-returns-2
-left_out c = let h = c.before.before.before in (h.still-holds.ensures.0 c.if2.true, h.still-holds.ensures.1)
+returns_2 : tie.Need-returns-2
+returns_2 c =
+    let k = c.before in
+    let s = k.before.before in
+    (s.before.before.before.before.before.before.before.before.requires.3, kept_then (frame_kept s.search.ensures.1.1) k.spend.ensures)
 
-stays : tie.Need-returns-3
-stays c = let h = c.before.before.before in (h.before.before.before.before.before.before.before.requires.3, h.still-holds.ensures.1)
+returns_3 : tie.Need-returns-3
+returns_3 c =
+    let k = c.before in
+    let s = k.before.before in
+    (core_below _ _ _ s.before.off_nodes.ensures c.if2.false s.search.ensures.1.0, kept_then (frame_kept s.search.ensures.1.1) k.spend.ensures)
 
 pub leave_out_spec : {M : Type 1} → statement M
 leave_out_spec =
@@ -17,7 +24,8 @@ leave_out_spec =
     (λ c. search rules)
     (λ c κs. search rules)
     (λ c κs. search rules)
-    (λ c. search rules)
-    left_out
-    (λ c. search rules)
-    stays)
+    (λ c κs. search rules)
+    (λ c κs. search rules)
+    (λ c κs. search rules)
+    returns_2
+    returns_3)

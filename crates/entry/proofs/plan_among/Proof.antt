@@ -16,15 +16,15 @@ passed : (c : tie.Else1) → let a = c.before.before.before.before.before.args i
 passed c = refusal_passed _ _ _ _ (sym c.before.refusal-around.ensures ∙ c.if1.false)
 
 -- what is planned
-made : (c : tie.After-plan-around) → let a = c.before.before.before.before.before.before.before.before.args in
+made : (c : tie.After-plan-around) → let a = c.before.before.before.before.before.before.before.args in
     PlannedOver (to_be a.apart) (mesh_of a.table.now a.closed.now a.q) a.q.allowance c.plan-around.result
-made c = around_planned _ _ _ _ c.before.before.read.ensures c.plan-around.ensures
+made c = around_planned _ _ _ _ c.before.read.ensures c.plan-around.ensures
 
 returns : tie.Need-returns
 returns c = refused _ _ _ _ _ _ c.before.refusal-around.ensures c.if1.true
 
 returns_2 : tie.Need-returns-2
-returns_2 c = let gave = c.before.before in let planned = gave.before.before.before in given _ _ _ _ _ (passed planned.before.before.before) (made planned) gave.give.ensures
+returns_2 c = let gave = c.before.before in let planned = gave.before.before in given _ _ _ _ _ (passed planned.before.before) (made planned) gave.give.ensures
 
 pub plan_among_spec : {M : Type 1} → statement M
 plan_among_spec =
@@ -33,8 +33,7 @@ plan_among_spec =
     (λ c κs. search rules)
     returns
     (λ c κs. (passed c).closed_set.whole)
-    (λ c. search rules)
-    (λ c κs. (passed c.before.before).checked)
-    (λ c κs. let planned = c.before.before in ((passed planned.before.before.before).room, fits (made planned)))
+    (λ c κs. (passed c.before).checked)
+    (λ c κs. let planned = c.before in ((passed planned.before.before).room, fits (made planned)))
     (λ c. search rules)
     returns_2)

@@ -14,8 +14,8 @@ use Rattle.find.proofs.wanted.Tie as tie
 
 returns : tie.Need-returns
 returns c =
-    let k = c.before.before in
-    let b = k.before.before.before.before in
+    let k = c.before in
+    let b = k.before.before.before in
     let main = b.before.before.if1.true in
     let a = b.before.before.before.args in
     (wanted_main _ _ a.want a.route a.last main b.barred-by.ensures k.best_key.ensures.0, (k.best_key.ensures.1, λ e. absurd (true≢false (sym main ∙ e))))
@@ -43,7 +43,6 @@ wanted_spec =
     tie.close
     (tie.spec
     (λ c κs. search rules)
-    (λ c. search rules)
     (λ c. search rules)
     (λ c κs. search rules)
     returns

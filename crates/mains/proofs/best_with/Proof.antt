@@ -13,10 +13,10 @@ use Rattle.mains.proofs.best_with.Statement.{statement}
 use Rattle.mains.proofs.best_with.Tie as tie
 
 abbrev bounded : tie.After-best-key → tie.After-bound-for
-bounded k = k.before.before.before.before.before
+bounded k = k.before.before.before.before
 
 abbrev start : tie.After-best-key → tie.Start
-start k = (bounded k).before.before
+start k = (bounded k).before
 
 -- after the search
 beside : (k : tie.After-best-key) → let s = start k in
@@ -25,34 +25,26 @@ beside : (k : tie.After-best-key) → let s = start k in
 beside k =
     let s = start k in
     beside_all _ _ s.args.best _ s.pre.1 _ (bounded k).bound-for.ensures
-    (k.best_key.ensures.0 ∙ ap (λ (off : Barred). least_of (quest (mesh_in s.args.net.now) s.args.main.exposure off) (bounded k).bound-for.result) k.before.before.before.barred-by.ensures)
+    (k.best_key.ensures.0 ∙ ap (λ (off : Barred). least_of (quest (mesh_in s.args.net.now) s.args.main.exposure off) (bounded k).bound-for.result) k.before.before.barred-by.ensures)
 
 pair_of_requires : tie.Need-pair-of-requires
 pair_of_requires c κs =
-    let k = c.before.before.before in
+    let k = c.before in
     let s = start k in
     (s.pre.1, (beside_made _ _ s.args.best _ s.pre.1 (beside k) (omega (arith, c.if1.true, (bounded k).bound-for.ensures))).of_standby)
 
 returns : tie.Need-returns
 returns c =
-    let k = c.before.before.before.before in
+    let k = c.before.before in
     let s = start k in
     let made = beside_made _ _ s.args.best _ s.pre.1 (beside k) (omega (arith, c.before.if1.true, (bounded k).bound-for.ensures)) in
     (c.pair_of.ensures ∙ made.is, k.best_key.ensures.1)
 
 returns_2 : tie.Need-returns-2
 returns_2 c =
-    let k = c.before.before.before in
+    let k = c.before in
     let s = start k in
     (sym (beside_kept _ _ s.args.best _ s.pre.1 (beside k) (omega (arith, c.if1.false, (bounded k).bound-for.ensures))), k.best_key.ensures.1)
 
 pub best_with_spec : {M : Type 1} → statement M
-best_with_spec = tie.close (tie.spec
-    (λ c κs. search rules)
-    (λ c κs. search rules)
-    (λ c κs. search rules)
-    pair_of_requires
-    (λ c. search rules)
-    returns
-    (λ c. search rules)
-    returns_2)
+best_with_spec = tie.close (tie.spec (λ c κs. search rules) (λ c κs. search rules) (λ c κs. search rules) pair_of_requires returns returns_2)

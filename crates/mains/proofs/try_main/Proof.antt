@@ -16,11 +16,11 @@ use Rattle.mains.proofs.try_main.Tie as tie
 
 returns : tie.Need-returns
 unfolding tried
-returns c = (rw (c.if1.true, tried), c.before.before.requires.2)
+returns c = (rw (c.if1.true, tried), c.before.requires.2)
 
 returns_2 : tie.Need-returns-2
 unfolding tried
-returns_2 c = (rw (c.before.before.if1.false, le-leb _ _ c.if2.true, tried), c.before.before.before.before.requires.2)
+returns_2 c = (rw (c.before.before.if1.false, le-leb _ _ c.if2.true, tried), c.before.before.before.requires.2)
 
 -- a main that is counted
 more : (only : Bool) (m : Mesh) (cap : ℕ) (main : Behind) (last : ℕ) (t : Tally) {best : ℕ} {r : Tally} → t.over ≡ false → t.ranked < cap
@@ -30,16 +30,10 @@ more only m cap main last t o h b e = rw (o, lt-leb cap t.ranked h) (e ∙ ap (�
 
 returns_3 : tie.Need-returns-3
 returns_3 c =
-    let b = c.before.before.before in
-    let e = b.before.before.before in
-    let s = e.before.before.before.before in
+    let b = c.before in
+    let e = b.before.before in
+    let s = e.before.before.before in
     (more _ _ s.args.cap s.args.main s.args.last s.args.t e.before.before.if1.false e.if2.false b.best_with_lem.ensures.0 c.one_more.ensures, b.best_with_lem.ensures.1)
 
 pub try_main_spec : {M : Type 1} → statement M
-try_main_spec = tie.close (tie.spec
-    returns
-    returns_2
-    (λ c κs. search rules)
-    (λ c κs. search rules)
-    (λ c. search rules)
-    returns_3)
+try_main_spec = tie.close (tie.spec returns returns_2 (λ c κs. search rules) (λ c κs. search rules) returns_3)

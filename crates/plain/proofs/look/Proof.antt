@@ -18,9 +18,9 @@ use Rattle.net.specs.declared.Behind.{Behind}
 use Rattle.net.specs.Net.{arcs_in, word_at, lower_from, mesh_in}
 use Rattle.net.specs.Search.{behind}
 use Rattle.net.proofs.SearchLaws.{has_met, has_not_met, onto_read}
-use Rattle.standby.specs.declared.Hop.TheVariants.{Leads}
-use Rattle.standby.specs.Standby.{main_in, door_of, last_barred, key_over, end_of}
-use Rattle.standby.proofs.HopLaws.{Opens, hop_met, hop_far, hop_no_better, hop_ends, hop_leads}
+use Rattle.standby.specs.declared.Hop.TheVariants.{Ends, Leads}
+use Rattle.standby.specs.Standby.{main_in, door_of, last_barred, key_over}
+use Rattle.standby.proofs.HopLaws.{Opens, hop_met, hop_far, hop_no_better, hop_barred, hop_ends, hop_leads}
 use Rattle.plain.specs.Plain.{by_risks}
 use Rattle.plain.proofs.PlainLaws.{joined_plain, sharing_plain}
 use Rattle.plain.proofs.look.Statement.{statement}
@@ -110,8 +110,8 @@ too_far c =
     let l = c.before.before in
     sym (hop_far (mesh_in (net l)) (lower l) (main l) (door l) (last l) (start l).args.least (passed l) (start l).args.i (arc l) (new l) (omega (arith, length_is l, c.if2.true, c.before.reach.ensures.0)))
 
-no_better_lem : tie.Need-returns-3
-no_better_lem c =
+no_better : tie.Need-returns-3
+no_better c =
     let k = c.before in
     let l = bounded k in
     sym (hop_no_better (mesh_in (net l)) (lower l) (main l) (door l) (last l) (start l).args.least (passed l) (start l).args.i (arc l) (new l) (reached k) (omega (arith, key_is k, c.if3.true)))
@@ -126,15 +126,22 @@ better d = omega (arith, d.before.before.if3.false)
 at_terminal : (d : tie.Then4) → let l = bounded (keyed d) in (arc l).head ≡ (mesh_in (net l)).terminal
 at_terminal d = sym (head_is (bounded (keyed d))) ∙ d.if4.true ∙ d.before.terminal.ensures.0
 
-ends : tie.Need-returns-4
-ends c =
-    let d = c.before in
+barred : tie.Need-returns-4
+barred c =
+    let d = c.before.before in
     let k = keyed d in
     let l = bounded k in
-    c.ending.ensures ∙ ap (end_of (last l) (start l).args.i) (key_is k)
-    ∙ sym (hop_ends (mesh_in (net l)) (lower l) (main l) (door l) (last l) (start l).args.least (passed l) (start l).args.i (arc l) (opens k (better d)) (at_terminal d))
+    sym (hop_barred (mesh_in (net l)) (lower l) (main l) (door l) (last l) (start l).args.least (passed l) (start l).args.i (arc l) (opens k (better d)) (at_terminal d) c.if5.true)
 
-leads : tie.Need-returns-5
+ends : tie.Need-returns-5
+ends c =
+    let d = c.before.before in
+    let k = keyed d in
+    let l = bounded k in
+    ap Ends (key_is k)
+    ∙ sym (hop_ends (mesh_in (net l)) (lower l) (main l) (door l) (last l) (start l).args.least (passed l) (start l).args.i (arc l) (opens k (better d)) (at_terminal d) c.if5.false)
+
+leads : tie.Need-returns-6
 leads c =
     let w = c.before in
     let t = w.before.before in
@@ -178,9 +185,10 @@ look_spec =
     (λ c. search rules)
     (λ c κs. search rules)
     standby_key_requires
-    no_better_lem
+    no_better
     (λ c κs. search rules)
-    (λ c κs. search rules)
+    (λ c. search rules)
+    barred
     ends
     (λ c. omega (arith, node c))
     (λ c κs. omega (arith, node c))

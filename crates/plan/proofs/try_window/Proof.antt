@@ -21,10 +21,10 @@ use Rattle.plan.proofs.try_window.Tie as tie
 -- ---- after the window
 
 abbrev capped : tie.After-sweep → tie.After-cap-for
-capped w = w.before.before.before
+capped w = w.before.before
 
 abbrev start : tie.After-sweep → tie.Start
-start w = (capped w).before.before.before.before.before
+start w = (capped w).before.before.before.before
 
 abbrev net : tie.After-sweep → List ℕ
 net w = (start w).args.net.now
@@ -62,7 +62,7 @@ stopped w o one =
 -- ---- what it says
 
 abbrev swept : tie.After-struct-known → tie.After-sweep
-swept e = e.before.before.before.before
+swept e = e.before.before
 
 is_met_requires : tie.Need-is-met-requires
 is_met_requires c κs =
@@ -119,16 +119,12 @@ try_window_spec =
     (λ c κs. search rules)
     (λ c κs. search rules)
     is_met_requires
-    (λ c. search rules)
     met
     (λ c κs. search rules)
     (λ c κs. search rules)
-    (λ c. search rules)
     not_met
     ended_at_requires
-    (λ c. search rules)
     at_allowance
     (λ c. search rules)
     (λ c κs. search rules)
-    (λ c. search rules)
     narrower)

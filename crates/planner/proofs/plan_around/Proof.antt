@@ -10,12 +10,12 @@ none c = none_planned c.before.before.before.read-around.ensures (not-true _ c.b
 
 plan_net_requires : tie.Need-plan-net-requires
 plan_net_requires c κs =
-    let read = c.before.before.before.before in
-    let s = read.before.before.before.before in
-    (laid_own (read.read-around.ensures.some (not-false _ c.before.before.if1.false)), s.requires.some_allowance, s.requires.allowance_range)
+    let read = c.before.before.before in
+    let s = read.before.before.before in
+    (laid_own (read.read-around.ensures.some (not-false _ c.before.if1.false)), s.requires.some_allowance, s.requires.allowance_range)
 
 returns : tie.Need-returns-2
-returns c = some_planned c.before.before.before.before.before.before.before.read-around.ensures (not-false _ c.before.before.before.before.before.if1.false) c.before.before.plan-net.ensures
+returns c = some_planned c.before.before.before.before.read-around.ensures (not-false _ c.before.before.if1.false) c.plan-net.ensures
 
 pub plan_around_spec : {M : Type 1} → statement M
 plan_around_spec =
@@ -25,5 +25,4 @@ plan_around_spec =
     (λ c κs. search rules)
     none
     plan_net_requires
-    (λ c. search rules)
     returns)

@@ -24,12 +24,12 @@ none c = none_planned (read c.before.before.before) (not-true _ c.before.if1.tru
 
 plan_net_requires : tie.Need-plan-net-requires
 plan_net_requires c κs =
-    let r = c.before.before.before.before in
+    let r = c.before.before.before in
     let s = r.before.before.before in
-    (laid_own ((read r).some (not-false _ c.before.before.if1.false)), s.requires.some_allowance, s.requires.allowance_range)
+    (laid_own ((read r).some (not-false _ c.before.if1.false)), s.requires.some_allowance, s.requires.allowance_range)
 
 returns : tie.Need-returns-2
-returns c = some_planned (read c.before.before.before.before.before.before) (not-false _ c.before.before.before.before.if1.false) c.before.plan-net.ensures
+returns c = some_planned (read c.before.before.before.before) (not-false _ c.before.before.if1.false) c.plan-net.ensures
 
 pub plan_checked_spec : {M : Type 1} → statement M
 plan_checked_spec =
@@ -38,6 +38,5 @@ plan_checked_spec =
     (λ c κs. search rules)
     (λ c κs. search rules)
     none
-    (λ c. search rules)
     plan_net_requires
     returns)

@@ -7,10 +7,10 @@ use Rattle.planner.proofs.plan_net.Statement.{statement}
 use Rattle.planner.proofs.plan_net.Tie as tie
 
 plan_requires : tie.Need-plan-requires
-plan_requires c κs = let s = c.before.before.before in (s.requires.0.words, laid_planning s.requires.0 s.requires.1 s.requires.2, stored_none _ _ refl refl)
+plan_requires c κs = let s = c.before in (s.requires.0.words, laid_planning s.requires.0 s.requires.1 s.requires.2, stored_none _ _ refl refl)
 
 returns : tie.Need-returns
-returns c = let l = c.before.before.before.before.before.before.before.before.requires.0 in made_planned l.some_route l.floor_is c.choose.ensures
+returns c = let l = c.before.before.before.before.requires.0 in made_planned l.some_route l.floor_is c.choose.ensures
 
 pub plan_net_spec : {M : Type 1} → statement M
 plan_net_spec =
@@ -18,5 +18,4 @@ plan_net_spec =
     (tie.spec
     plan_requires
     (λ c κs. search rules)
-    (λ c. search rules)
     returns)

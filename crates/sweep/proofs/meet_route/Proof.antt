@@ -10,8 +10,8 @@ end_route_requires c κs = search rules
 
 returns : tie.Need-returns
 returns c =
-    let e = c.before.before.before in
-    let s = e.before.before.before.before.before.before.before.before.before.before in
+    let e = c.before in
+    let s = e.before.before.before.before.before.before.before.before in
     (route_met _ _ s.args.route s.args.last s.requires.2 e.end-route.result c.flag.result c.flag.ensures e.end-route.ensures.0, e.end-route.ensures.1)
 
 pub meet_route_spec : {M : Type 1} → statement M
@@ -29,6 +29,5 @@ meet_route_spec =
     (λ c. search rules)
     (λ c. search rules)
     (λ c κs. search rules)
-    (λ c. search rules)
     (λ c. search rules)
     returns)

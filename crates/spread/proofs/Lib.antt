@@ -1,5 +1,0 @@
-mod SlotLaws
-mod PlaceLaws
-mod GrownLaws
-mod LeaveLaws
-mod SpreadLaws
