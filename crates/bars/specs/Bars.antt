@@ -1,6 +1,5 @@
 -- What the standbys of a main keep off: nodes that they must not meet, and an arc that they must not end with. Assumes nothing.
-use Rattle.std.specs.Prelude.{ℕ, Bool, List, [], ◌∷◌, ◌≡◌, eqb}
-use Rattle.laws.specs.Choosing.{if◌then◌else◌}
+use Rattle.std.specs.Prelude.{ℕ, Bool, List, [], ◌∷◌, ◌≡◌, eqb, if◌then◌else◌}
 use Rattle.laws.specs.Sets.{bit, with, without}
 use Rattle.problem.specs.Exposures.{to_nothing}
 use Rattle.problem.specs.Routes.{Mesh, arc_at}

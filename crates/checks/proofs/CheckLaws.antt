@@ -6,7 +6,7 @@ use Prim.Native.Nat.{ℕ, ◌%◌, ◌≤◌, ◌^◌}
 use lib.Dec.{ltb}
 use lib.ListN.{length}
 use borrow.Author.Tests.{le-ltb, eq-eqb, ne_eqb}
-use Rattle.laws.specs.Choosing.{if◌then◌else◌}
+use Rattle.std.specs.Prelude.{if◌then◌else◌}
 use Rattle.problem.specs.declared.Request.{Request}
 use Rattle.problem.specs.Table.{most_table_bytes, reply_size, arcs_of, arcs_number}
 use Rattle.problem.specs.Blanks.{blanks_number}

@@ -147,7 +147,7 @@ module _ {key : ℕ} (n : Numbers) (read : ReadOff key n) where
             where
               go : OutcomeOverAll only m (wanted_as_standby only m regular near o f) (sought_in s) → pair_in u.track s.track ≡ b
               go (Outcome.first g a p r) = ap₂ (λ (x y : Route). pair x y) main_found.route_is r ∙ sym (best_is_pair only m regular near o f g)
-              go (Outcome.nowhere no-standby a p r) = absurd (standby_somewhere only m regular near o f no-standby)
+              go (Outcome.nowhere none_passes a p r) = absurd (standby_somewhere only m regular near o f none_passes)
 
           -- the main's place, within what is counted
           passed_all : u.passed ≡ length (keep (as_long m.arcs b.main.metres) f.before)

@@ -296,9 +296,9 @@ module _ (only : Bool) (m : Mesh) (regular : Regular m) (near : m.reach ≤ most
           let pb : Place no_route b.main routes = record { at = early.at; inside = early.inside; is = early.is } in
           let pm = mem_place no_route listed in
           let pr = mem_place no_route i in
-          let before-best = place_le routes (ranking_strict m) pm pb (not_earlier main_in_lem refl best_passes) in
-          let before-main = place_le routes (ranking_strict m) pr pm h in
-          Memᴰ.cast pr.is (get_or_take_mem no_route j routes pr.at (omega (arith, before-best, before-main, early.early)) pr.inside)
+          let before_best = place_le routes (ranking_strict m) pm pb (not_earlier main_in_lem refl best_passes) in
+          let before_main = place_le routes (ranking_strict m) pr pm h in
+          Memᴰ.cast pr.is (get_or_take_mem no_route j routes pr.at (omega (arith, before_best, before_main, early.early)) pr.inside)
 
       main_first : (r s : Route) → Memᴰ r routes → Memᴰ s routes → ok (pair r s) ≡ true → r.metres ≡ main.metres → key_of (pair r s) ≡ top → precedes r main ≡ false
       main_first r s i q a e k = go (precedes r main) refl

@@ -1,6 +1,5 @@
 -- From the end of a run to the reply: the pair's own routes, the number ranked, the verdict. Assumes nothing.
-use Rattle.std.specs.Prelude.{ℕ, ◌+◌, ◌-◌, ◌/◌, ◌≤◌, ◌<◌, Bool, true, false, List, ◌≡◌, eqb, leb, length, get_or}
-use Rattle.laws.specs.Choosing.{if◌then◌else◌}
+use Rattle.std.specs.Prelude.{ℕ, ◌+◌, ◌-◌, ◌/◌, ◌≤◌, ◌<◌, Bool, true, false, List, ◌≡◌, eqb, leb, length, get_or, if◌then◌else◌}
 use Rattle.problem.specs.Table.{hazards, most_reach, most_allowance}
 use Rattle.problem.specs.Routes.{Route, count, shorter}
 use Rattle.problem.specs.Pairs.{Pair, no_route, some_at, best, ranked, verdict}

@@ -1,4 +1,5 @@
 -- Closed arcs turned round: what the bytes of a table then say, and that its routes are those of the same arcs with the closed ones shut. Assumes nothing.
+use Rattle.std.specs.Prelude.{if◌then◌else◌}
 use mathlib.Core.Path.{◌≡◌, refl, sym, ap, ap₂, ◌∙◌, subst}
 use mathlib.Core.Bool.{Bool, true, false}
 use mathlib.Core.List.{List, [], ◌∷◌, ◌++◌, map, Memᴰ}
@@ -8,7 +9,7 @@ use lib.Dec.{eqb, ltb}
 use lib.ListN.{length, take, drop, set, length-set, length-drop, get_or-eq_default}
 use lib.Seq.{length-take-le, ext_get_or, take-set-le, take-set-lt, drop-set-lt, drop-set-add}
 use borrow.Author.Tests.{ltb-true, ltb-false, eqb-true, eqb-false}
-use Rattle.laws.specs.Choosing.{if◌then◌else◌, keep, sort_by}
+use Rattle.laws.specs.Choosing.{keep, sort_by}
 use Rattle.laws.specs.Sets.{with}
 use Rattle.problem.specs.declared.Arc.{Arc}
 use Rattle.problem.specs.declared.Request.{Request}

@@ -1,4 +1,4 @@
-// The planning entries, exported for C: each checks everything itself, plans, and writes the reply.
+// The planning entries, which entry_c exports for C: each checks everything itself, plans, and writes the reply.
 #![tactic(auto)]
 
 ghost use Rattle.std.specs.Prelude.{◌≡◌, true, ◌≤◌, length};
@@ -34,8 +34,7 @@ fn give(reply: &mut [u8], made: Made) -> u32
 }
 
 // Plans, for any table, request and buffer: the number is 0 or 1 and the reply is written, or it is a refusal's and nothing is.
-#[unsafe(no_mangle)]
-pub extern "C" fn feshangul_plan(
+pub fn feshangul_plan(
     table: &[u8],
     reply: &mut [u8],
     source: u32,
@@ -73,8 +72,7 @@ fn plan_among(table: &[u8], closed: &[u8], reply: &mut [u8], q: Request, apart: 
 }
 
 // Plans around closed arcs (T-06), for any table, closed set, request and buffer.
-#[unsafe(no_mangle)]
-pub extern "C" fn feshangul_plan_around(
+pub fn feshangul_plan_around(
     table: &[u8],
     closed: &[u8],
     reply: &mut [u8],
@@ -96,8 +94,7 @@ pub extern "C" fn feshangul_plan_around(
 
 // Plans pairs that meet in no node but the two ends and have no arc in common (T-05), around closed arcs. 14 where there is no such pair, 15 where the allowance ends
 // before the first main of one: neither writes anything.
-#[unsafe(no_mangle)]
-pub extern "C" fn feshangul_plan_apart(
+pub fn feshangul_plan_apart(
     table: &[u8],
     closed: &[u8],
     reply: &mut [u8],

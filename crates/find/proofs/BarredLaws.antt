@@ -27,9 +27,9 @@ module _ (t : Track) where
   -- ---- the next arc of the track
 
   module _ (fit : Fit t) {i : ℕ} (more : i < t.count) where
-    pub next_in_lem : Memᴰ (get_or t.arcs i 0) (route_in t).arcs
+    pub next_into : Memᴰ (get_or t.arcs i 0) (route_in t).arcs
     unfolding route_in
-    next_in_lem = get_or_take_mem 0 t.count t.arcs i more (omega (arith, fit.few, fit.size))
+    next_into = get_or_take_mem 0 t.count t.arcs i more (omega (arith, fit.few, fit.size))
 
     next_first : drop i ks ≡ get_or t.arcs i 0 ∷ drop (i + 1) ks
     unfolding route_in

@@ -1,4 +1,5 @@
 -- What a search from the source finds: the first list of the wanted length that passes, and, of mains, how many of that length stand before it. Assumes nothing.
+use Rattle.std.specs.Prelude.{if◌then◌else◌}
 use mathlib.Core.Path.{◌≡◌, refl, sym, ap, ap₂, ◌∙◌, subst}
 use mathlib.Core.Logic.{◌⊎◌, inl, inr}
 use mathlib.Core.Bool.{Bool, true, false}
@@ -10,7 +11,7 @@ use native.Mathlib.Omega.{arith}
 use lib.Dec.{eqb, ltb}
 use lib.ListN.{length}
 use borrow.Author.Tests.{eqb-true, eqb-false}
-use Rattle.laws.specs.Choosing.{if◌then◌else◌, keep}
+use Rattle.laws.specs.Choosing.{keep}
 use Rattle.laws.specs.Sets.{bit, with}
 use Rattle.laws.proofs.SetLaws.{bit_with, bit_with_same, unmet_some}
 use Rattle.problem.specs.declared.Arc.{Arc}

@@ -1,7 +1,7 @@
 -- The first route of a wanted length that passes a test, in depth-first order, and, of mains, how many of that length stand before it. Assumes nothing.
-use Rattle.std.specs.Prelude.{ℕ, ◌+◌, ◌≤◌, ◌<◌, min, Bool, true, false, ◌&&◌, not, ◌≡◌, eqb, ltb, length}
+use Rattle.std.specs.Prelude.{ℕ, ◌+◌, ◌≤◌, ◌<◌, min, Bool, true, false, ◌&&◌, not, ◌≡◌, eqb, ltb, length, if◌then◌else◌}
 use mathlib.Core.List.{List, ◌∷◌, ◌++◌, foldl, Memᴰ}
-use Rattle.laws.specs.Choosing.{if◌then◌else◌, keep}
+use Rattle.laws.specs.Choosing.{keep}
 use Rattle.laws.specs.Sets.{bit}
 use Rattle.problem.specs.declared.Arc.{Arc}
 use Rattle.problem.specs.declared.Exposure.{Exposure}

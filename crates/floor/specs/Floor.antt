@@ -1,6 +1,5 @@
 -- What lies on every way within reach: what a table of ways leaves of an exposure, and what asking about one risk after the other does. Assumes nothing.
-use Rattle.std.specs.Prelude.{◌≡◌, Bool, ◌&&◌, List, ℕ, ◌≤◌, ◌<◌, leb}
-use Rattle.laws.specs.Choosing.{if◌then◌else◌}
+use Rattle.std.specs.Prelude.{◌≡◌, Bool, ◌&&◌, List, ℕ, ◌≤◌, ◌<◌, leb, if◌then◌else◌}
 use Rattle.problem.specs.declared.Exposure.{Exposure}
 use Rattle.problem.specs.Table.{hazards}
 use Rattle.problem.specs.Exposures.{exposed, common}

@@ -1,6 +1,5 @@
 -- The judgement as one number, so that code compares pairs, and the standbys of one main, by one comparison. Assumes nothing.
-use Rattle.std.specs.Prelude.{ℕ, ◌+◌, ◌*◌, ◌-◌, ◌/◌, ◌%◌, ◌^◌, ◌≤◌, max, ◌≡◌, ltb}
-use Rattle.laws.specs.Choosing.{if◌then◌else◌}
+use Rattle.std.specs.Prelude.{ℕ, ◌+◌, ◌*◌, ◌-◌, ◌/◌, ◌%◌, ◌^◌, ◌≤◌, max, ◌≡◌, ltb, if◌then◌else◌}
 use Rattle.problem.specs.Table.{hazards, most_reach}
 use Rattle.problem.specs.Pairs.{Pair, shared_count, total}
 

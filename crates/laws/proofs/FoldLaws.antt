@@ -1,4 +1,5 @@
 -- Lists and folds, whatever they hold: what is kept, how much of it, lists with the same members, and the first of many by a fold. Assumes nothing.
+use Rattle.std.specs.Prelude.{if◌then◌else◌}
 use mathlib.Core.Path.{◌≡◌, refl, sym, ap, ap₂, ◌∙◌}
 use mathlib.Core.Logic.{◌⊎◌, inl, inr, ◌↔◌}
 use mathlib.Core.Bool.{Bool, true, false, true≢false}
@@ -9,7 +10,7 @@ use native.Mathlib.Omega.{arith}
 use lib.Dec.{ltb}
 use lib.ListN.{length}
 use borrow.Author.Tests.{ltb-true, ltb-false}
-use Rattle.laws.specs.Choosing.{if◌then◌else◌, keep, insert_by, sort_by, Pairwise}
+use Rattle.laws.specs.Choosing.{keep, insert_by, sort_by, Pairwise}
 use Rattle.laws.proofs.OrderLaws.{Weak}
 use Rattle.laws.proofs.SortLaws.{Strict}
 use Rattle.laws.proofs.SetLaws.{digit}

@@ -1,11 +1,6 @@
--- Choosing: one value or another, numbers in a row, those of a list that pass a test, the order of lists, a list in order, the first of a list. Assumes nothing.
+-- Choosing: numbers in a row, those of a list that pass a test, the order of lists, a list in order, the first of a list. Assumes nothing.
 use Rattle.std.specs.Prelude.{ℕ, zero, suc, Bool, true, false, ◌&&◌, ◌||◌, not, ◌≡◌}
 use mathlib.Core.List.{List, [], ◌∷◌, Memᴰ}
-
-infix 20 if◌then◌else◌
-abbrev pub if◌then◌else◌ {ℓ} : {A : Type ℓ} → Bool → A → A → A
-if◌then◌else◌ true a b = a
-if◌then◌else◌ false a b = b
 
 -- the least number from j on that passes the test; after n failures, the number then reached
 unfoldable pub least_from : (ℕ → Bool) → ℕ → ℕ → ℕ

@@ -58,12 +58,12 @@ record Links (a : Arc) (after after_in word : ℕ) : Type 0 where
   pub head : word % 256 ≡ a.head
   pub next : word / 256 % 256 ≡ after
   pub tail : word / 65536 % 256 ≡ a.tail
-  pub next_in_lem : word / 16777216 % 256 ≡ after_in
+  pub next_into : word / 16777216 % 256 ≡ after_in
   pub span : word / 4294967296 ≡ a.span
 
-links_say : (a : Arc) {next next_in_lem word : ℕ} → a.head ≤ last_node → a.tail ≤ last_node → next ≤ most_in_table → next_in_lem ≤ most_in_table → word ≡ links_of a next next_in_lem
-    → Links a next next_in_lem word
-links_say a {next} {next_in_lem} {word} h t n i e = record { head = omega arith; next = omega arith; tail = omega arith; next_in_lem = omega arith; span = omega arith }
+links_say : (a : Arc) {next next_into word : ℕ} → a.head ≤ last_node → a.tail ≤ last_node → next ≤ most_in_table → next_into ≤ most_in_table → word ≡ links_of a next next_into
+    → Links a next next_into word
+links_say a {next} {next_into} {word} h t n i e = record { head = omega arith; next = omega arith; tail = omega arith; next_into = omega arith; span = omega arith }
 
 -- an arc without a span is exposed to none
 unspanned : (a : Arc) → a.span ≡ 0 → ((of_arc a).low ≡ 0) × ((of_arc a).high ≡ 0)
@@ -128,7 +128,7 @@ module _ {table : List ℕ} {q : Request} {side : List Distance} {spanned apart 
 
   says_next_in : (k : ℕ) → k < length arcs → next_in_of net k ≡ next_in into k
   unfolding next_in_of
-  says_next_in k h = (links k h).next_in_lem
+  says_next_in k h = (links k h).next_into
 
   says_arcs : arcs_in net ≡ arcs
   says_arcs = ext_get_or (arc_at [] 0) (arcs_in net) arcs says_count (λ k h. says_arc k (omega (arith, says_count)))
@@ -153,7 +153,7 @@ module _ {table : List ℕ} {q : Request} {side : List Distance} {spanned apart 
     lower_terminal = lower_word terminal checked.terminal_node ∙ lower_reached sides terminal sides.entries.terminal_reached ∙ sides.entries.terminal_metres;
     exposure = exposure_word;
     plain = λ e k h. unspanned (arc_at arcs k) (of_spans (sym (of_request.here 5 (omega arith)) ∙ e) k h);
-    next_in_lem = λ k h. rw (says_next_in k h) (chained_in.next k h);
+    next_into = λ k h. rw (says_next_in k h) (chained_in.next k h);
     first_door = rw (of_request.here 4 (omega arith)) (chained_in.first terminal checked.terminal_node);
   }
 

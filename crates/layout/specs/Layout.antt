@@ -1,6 +1,5 @@
 -- A table laid out: the words of an arc, of a node, of the request, and what all words together say. Assumes nothing.
-use Rattle.std.specs.Prelude.{ℕ, ◌+◌, ◌*◌, Bool, true, List, [], ◌∷◌, ◌≡◌, length}
-use Rattle.laws.specs.Choosing.{if◌then◌else◌}
+use Rattle.std.specs.Prelude.{ℕ, ◌+◌, ◌*◌, Bool, true, List, [], ◌∷◌, ◌≡◌, length, if◌then◌else◌}
 use Rattle.problem.specs.declared.Arc.{Arc}
 use Rattle.problem.specs.Table.{nodes, most_in_table}
 use Rattle.problem.specs.Exposures.{of_arc}
@@ -12,12 +11,12 @@ use Rattle.net.specs.Net.{first_from, lower_from, apart_at, word_at, mesh_in, Ne
 use Rattle.layout.specs.Spread.{Columns}
 
 -- an arc's links in one word: its head, the next arc of its tail, its tail, the next arc of its head, and above these its span
-abbrev pub links_of : Arc → (next next_in_lem : ℕ) → ℕ
-links_of a next next_in_lem = a.head + 256 * next + (65536 * a.tail + 16777216 * next_in_lem) + 4294967296 * a.span
+abbrev pub links_of : Arc → (next next_into : ℕ) → ℕ
+links_of a next next_into = a.head + 256 * next + (65536 * a.tail + 16777216 * next_into) + 4294967296 * a.span
 
 -- the words of an arc; those of arc k, chained by tails and by heads; those of all arcs are written
-abbrev pub arc_words : Arc → (next next_in_lem : ℕ) → List ℕ
-arc_words a next next_in_lem = a.risks ∷ a.metres ∷ links_of a next next_in_lem ∷ (of_arc a).low ∷ (of_arc a).high ∷ []
+abbrev pub arc_words : Arc → (next next_into : ℕ) → List ℕ
+arc_words a next next_into = a.risks ∷ a.metres ∷ links_of a next next_into ∷ (of_arc a).low ∷ (of_arc a).high ∷ []
 
 abbrev pub arc_column : List Arc → (chain into : List ℕ) → ℕ → List ℕ
 arc_column arcs chain into k = arc_words (arc_at arcs k) (next_in chain k) (next_in into k)

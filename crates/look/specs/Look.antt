@@ -1,6 +1,5 @@
 -- What an arc is to a search. Assumes nothing.
-use Rattle.std.specs.Prelude.{ℕ, ◌+◌, List, eqb, ltb}
-use Rattle.laws.specs.Choosing.{if◌then◌else◌}
+use Rattle.std.specs.Prelude.{ℕ, ◌+◌, List, eqb, ltb, if◌then◌else◌}
 use Rattle.laws.specs.Sets.{bit}
 use Rattle.problem.specs.declared.Arc.{Arc}
 use Rattle.problem.specs.Routes.{arc_at}

@@ -1,5 +1,6 @@
 -- The tally of some mains is their number, the length of the longest and the least key of their judged pairs, so it depends on who they are and not on the order in
 -- which they were tried; that of the first j routes of the ranking is the tally of step j. Assumes nothing.
+use Rattle.std.specs.Prelude.{if◌then◌else◌}
 use mathlib.Core.Path.{◌≡◌, refl, sym, ap, ◌∙◌, subst}
 use mathlib.Core.Logic.{inl, inr, ◌↔◌}
 use mathlib.Core.Bool.{Bool, true, false, true≢false}
@@ -12,7 +13,7 @@ use lib.Dec.{eqb, leb, ltb}
 use lib.ListN.{length, get_or, take, length-append}
 use lib.Seq.{take-nil, length-take-le}
 use borrow.Author.Tests.{eqb-true, eqb-false, leb-true, leb-false, le-leb, lt-leb, ltb-true, ltb-false, lt-ltb, le-ltb}
-use Rattle.laws.specs.Choosing.{if◌then◌else◌, keep}
+use Rattle.laws.specs.Choosing.{keep}
 use Rattle.laws.proofs.FoldLaws.{AtLeast, smaller, larger, FirstOf, min_first, max_first, Given, first_same, first_unique, first_fold, first_members}
 use Rattle.laws.proofs.ListLaws.{get_or_mem, get_or_take_mem, take_place, take_mem}
 use Rattle.problem.specs.Table.{most_reach}
@@ -238,7 +239,7 @@ module _ (only : Bool) (m : Mesh) where
 -- before any main no pair is judged
 pub none_first : (ok : Pair → Bool) (routes : List Route) → best_key ok routes 0 ≡ no_key
 unfolding best_key some_at candidates pairs_of keep
-none_first ok routes = refl
+none_first ok rs = refl
 
 pub stepped_start : (ok : Pair → Bool) (routes : List Route) → Stepped ok routes 0 no_tally
 stepped_start ok routes =

@@ -7,7 +7,7 @@ use Prim.Native.Nat.{ℕ, ◌+◌, ◌≤◌, ◌<◌, min}
 use native.Mathlib.Omega.{arith}
 use lib.Dec.{eqb, leb, ltb}
 use borrow.Author.Tests.{leb-true, ltb-true, ltb-false}
-use Rattle.laws.specs.Choosing.{if◌then◌else◌}
+use Rattle.std.specs.Prelude.{if◌then◌else◌}
 use Rattle.problem.specs.Table.{hazards, most_reach}
 use Rattle.problem.specs.Exposures.{sharing}
 use Rattle.problem.specs.Routes.{Mesh}
@@ -77,7 +77,7 @@ module _ (m : Mesh) (main : Behind) (best : ℕ) (near : m.reach ≤ most_reach)
   beside_fold : (off : Barred) (key pair : ℕ) (l : List (List ℕ)) → Beside key pair
       → Beside (foldl (visit m.arcs (offered m main.exposure off.last) (start_barred m off)) key l) (foldl (visit m.arcs (paired m main off.last) (start_barred m off)) pair l)
   beside_fold off key pair [] b = b
-  beside_fold off key pair (ks ∷ l) b = beside_fold off _ _ l (offered_beside off.last key pair (along m.arcs (start_barred m off) ks) (last_of no_arc ks) b)
+  beside_fold off key pair (ks ∷ l) b = beside_fold off (offered m main.exposure off.last key (along m.arcs (start_barred m off) ks) (last_of no_arc ks)) (paired m main off.last pair (along m.arcs (start_barred m off) ks) (last_of no_arc ks)) l (offered_beside off.last key pair (along m.arcs (start_barred m off) ks) (last_of no_arc ks) b)
 
   -- all of them
   pub beside_all : (off : Barred) {bound key : ℕ} → bound ≡ bound_for best x → key ≡ least_of (quest m main.exposure off) bound → Beside key (best_with m main off best)

@@ -1,6 +1,5 @@
 -- A route tried as a main: with every standby that it does not bar, and counted in the tally; and what the tally of a step is. Assumes nothing.
-use Rattle.std.specs.Prelude.{ℕ, ◌+◌, ◌≤◌, ◌<◌, min, Bool, true, false, List, ◌≡◌, eqb, leb, length}
-use Rattle.laws.specs.Choosing.{if◌then◌else◌}
+use Rattle.std.specs.Prelude.{ℕ, ◌+◌, ◌≤◌, ◌<◌, min, Bool, true, false, List, ◌≡◌, eqb, leb, length, if◌then◌else◌}
 use Rattle.problem.specs.Exposures.{sharing}
 use Rattle.problem.specs.Routes.{Mesh, Route}
 use Rattle.problem.specs.Pairs.{Pair, of_rank, some_at, best}

@@ -1,4 +1,5 @@
 -- All arcs mended, one after the other: what is left to be written, and what holds between two arcs. Assumes nothing.
+use Rattle.std.specs.Prelude.{if◌then◌else◌}
 use Prim.Native.Nat.{ℕ, suc, ◌+◌, ◌*◌, ◌-◌, ◌≤◌, ◌<◌}
 use mathlib.Core.Bool.{Bool, true, false}
 use mathlib.Core.List.{List, [], ◌∷◌, ◌++◌, map, flat_map}
@@ -9,7 +10,7 @@ use lib.Dec.{ltb}
 use lib.ListN.{length, take}
 use lib.Seq.{take-nil}
 use borrow.Author.Tests.{ltb-true, ltb-false}
-use Rattle.laws.specs.Choosing.{if◌then◌else◌, numbers_from, keep}
+use Rattle.laws.specs.Choosing.{numbers_from, keep}
 use Rattle.laws.proofs.ListLaws.{keep_first, keep_past}
 use Rattle.problem.specs.Table.{most_in_table, record_at}
 use Rattle.problem.specs.Mending.{whole_arcs, fault_at, stays, staying_below, new_number, kept_arcs, mended_table, reason_at, is_lost, is_changed, change_at, change_bytes}
@@ -143,8 +144,8 @@ module _ (input : List ℕ) where
     underway_next room inside s =
         let one : whole_arcs input - k ≡ suc (whole_arcs input - (k + 1)) = omega arith in
         let ready = underway_ready room inside in
-        let table-part = table_part_short input inside in
-        let list-part = list_part_short input inside in
+        let table_small = table_part_short input inside in
+        let list_small = list_part_short input inside in
         record {
           within = omega arith;
           staying_is = s.staying_is;

@@ -1,7 +1,6 @@
 -- A table mended arc by arc: what each arc adds to the two outputs, what a step does, and all steps together. Assumes nothing.
-use Rattle.std.specs.Prelude.{ℕ, ◌+◌, ◌*◌, ◌≤◌, ◌<◌, ◌≡◌, length}
+use Rattle.std.specs.Prelude.{ℕ, ◌+◌, ◌*◌, ◌≤◌, ◌<◌, ◌≡◌, length, if◌then◌else◌}
 use mathlib.Core.List.{List, [], flat_map}
-use Rattle.laws.specs.Choosing.{if◌then◌else◌}
 use Rattle.problem.specs.Table.{record_at}
 use Rattle.problem.specs.Mending.{most_field_bytes, whole_arcs, new_number, mended_table, reason_at, is_lost, torn_end, is_changed, change_at, changes_from, change_bytes, rounded_up, Mends}
 use Rattle.octets.specs.Puts.{Puts}

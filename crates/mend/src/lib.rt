@@ -1,8 +1,7 @@
 // Tables from the field mended (T-01): a clean table, and the list of what was changed or lost. The mender's entry, exported for C, stands at the end.
 #![tactic(auto)]
 
-ghost use Rattle.std.specs.Prelude.{◌≡◌, [], ◌+◌, ◌≤◌, length};
-ghost use Rattle.laws.specs.Choosing.{if◌then◌else◌};
+ghost use Rattle.std.specs.Prelude.{◌≡◌, [], ◌+◌, ◌≤◌, length, if◌then◌else◌};
 ghost use Rattle.problem.specs.Reply.{first_number};
 ghost use Rattle.problem.specs.Mending.{most_field_bytes, may_stay, reason_for, is_lost, no_number, changed, change_bytes, mend_checks};
 ghost use Rattle.octets.specs.Puts.{Puts};

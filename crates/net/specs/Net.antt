@@ -127,7 +127,7 @@ pub record Chained (m : Mesh) (net : List ℕ) : Type 0 where
   pub exposure : (k : ℕ) → k < length m.arcs → exposure_in net k ≡ of_arc (arc_at m.arcs k)
   pub plain : word_at net spanned_at ≡ 0 → (k : ℕ) → k < length m.arcs → ((of_arc (arc_at m.arcs k)).low ≡ 0) × ((of_arc (arc_at m.arcs k)).high ≡ 0)
   -- the arcs of one head, chained as well: those of the terminal are the doors
-  pub next_in_lem : (k : ℕ) → k < length m.arcs → NextBy (λ (a : Arc). a.head) m.arcs (arc_at m.arcs k).head (k + 1) (next_in_of net k)
+  pub next_into : (k : ℕ) → k < length m.arcs → NextBy (λ (a : Arc). a.head) m.arcs (arc_at m.arcs k).head (k + 1) (next_in_of net k)
   pub first_door : NextBy (λ (a : Arc). a.head) m.arcs m.terminal 0 (word_at net first_door_at)
 
 -- the words hang together

@@ -1,6 +1,5 @@
 -- Windows of lengths, one after the other, until a step is settled, all routes are ranked, or the allowance ends. Assumes nothing.
-use Rattle.std.specs.Prelude.{ℕ, ◌*◌, ◌≤◌, ◌<◌, Bool, true, false, ◌&&◌, List, ◌≡◌, eqb, leb, length}
-use Rattle.laws.specs.Choosing.{if◌then◌else◌}
+use Rattle.std.specs.Prelude.{ℕ, ◌*◌, ◌≤◌, ◌<◌, Bool, true, false, ◌&&◌, List, ◌≡◌, eqb, leb, length, if◌then◌else◌}
 use Rattle.problem.specs.Table.{most_reach, most_allowance}
 use Rattle.problem.specs.Routes.{count, shorter}
 use Rattle.problem.specs.Pairs.{floor, settled_by_length}

@@ -5,7 +5,7 @@ use mathlib.Core.Path.{◌≡◌, ap, ap₂, ◌∙◌}
 use lib.Dec.{eqb}
 use lib.ListN.{length, get_or, take, drop}
 use borrow.Author.Tests.{le-ltb}
-use Rattle.laws.specs.Choosing.{if◌then◌else◌}
+use Rattle.std.specs.Prelude.{if◌then◌else◌}
 use Rattle.problem.specs.Table.{number_at}
 use Rattle.problem.specs.Reply.{refuse}
 use Rattle.problem.specs.Printed.{kilometres, text, digits, fields, lines, printed}

@@ -1,6 +1,5 @@
 -- How much room the text takes, and its first line. Assumes nothing.
-use Rattle.std.specs.Prelude.{ℕ, List, [], ◌∷◌, ◌++◌, eqb}
-use Rattle.laws.specs.Choosing.{if◌then◌else◌}
+use Rattle.std.specs.Prelude.{ℕ, List, [], ◌∷◌, ◌++◌, eqb, if◌then◌else◌}
 use Rattle.problem.specs.Reply.{verdict_in, shared_in, floor_in, ranked_in}
 use Rattle.problem.specs.Printed.{text, fields}
 

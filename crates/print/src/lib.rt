@@ -2,8 +2,7 @@
 // What is written goes into a buffer from a place on, and the place behind it is returned.
 #![tactic(auto)]
 
-ghost use Rattle.std.specs.Prelude.{◌≡◌, ◌∷◌, ◌++◌, ◌+◌, ◌-◌, ◌*◌, ◌≤◌, eqb, length, take, drop};
-ghost use Rattle.laws.specs.Choosing.{if◌then◌else◌};
+ghost use Rattle.std.specs.Prelude.{◌≡◌, ◌∷◌, ◌++◌, ◌+◌, ◌-◌, ◌*◌, ◌≤◌, eqb, length, take, drop, if◌then◌else◌};
 ghost use Rattle.problem.specs.Table.{reply_size};
 ghost use Rattle.problem.specs.Printed.{kilometres, text, digits, fields, lines, printed};
 ghost use Rattle.octets.specs.Puts.{Puts};

@@ -20,7 +20,7 @@ use Rattle.problem.specs.Pairs.{pair, shared_risks, shared_count, shared_spans, 
 use Rattle.problem.specs.Apart.{Apart}
 use Rattle.problem.specs.Reply.{mesh_over, mesh_of, Answer, ClosedSet, answer_among, after, shared_in, floor_in, shared_spans_in, ranked_in, main_metres_in, standby_metres_in, total_in, shared_risks_in, main_in, standby_in}
 use Rattle.problem.specs.Calls.{routes_of, RouteOf, WayOf, pair_made_of, pair_said, ApartWithin, allowing, Applies, Told, LowestFault, LowestBlank, answer_by_risks, answer_over_all, answer_with_blanks, ClosesAside, CalledAmong, CalledAround, CalledApart, Called}
-use Rattle.problem.specs.Mending.{most_field_bytes, Clean, mended_table, Change, mended_list, changes_in, old_number, rounded_up, Mending, mending, Mends, KeptAs, lost, Listed}
+use Rattle.problem.specs.Mending.{most_field_bytes, Clean, mended_table, Change, mended_list, changes_in, old_number, rounded_up, Mending, mending, Mends, KeptAs, Listed}
 use Rattle.problem.proofs.CallLaws.{low_number}
 use Rattle.problem.proofs.SaidLaws.{reply_size_lem}
 use Rattle.problem.proofs.MendCallLaws as MendCallLaws

@@ -1,4 +1,5 @@
 -- Mending, the list: read back from its bytes, what stands in it and in which order, and the old number of each arc that is kept. Assumes nothing.
+use Rattle.std.specs.Prelude.{if◌then◌else◌}
 use mathlib.Core.Path.{◌≡◌, refl, sym, ap, ◌∙◌, subst}
 use mathlib.Core.Logic.{◌⊎◌, inl, inr}
 use mathlib.Core.Bool.{Bool, true, false, true≢false, false≢true}
@@ -10,7 +11,7 @@ use lib.Dec.{eqb, ltb}
 use lib.ListN.{length, get_or, length-take}
 use lib.Seq.{get_or-take}
 use borrow.Author.Tests.{eqb-true, eqb-false, eq-eqb, ne_eqb, ltb-true, ltb-false, lt-ltb, le-ltb, le-leb, lt-leb}
-use Rattle.laws.specs.Choosing.{if◌then◌else◌, numbers_from, keep, Pairwise}
+use Rattle.laws.specs.Choosing.{numbers_from, keep, Pairwise}
 use Rattle.laws.proofs.ListLaws.{get_or_mem, keep_in, keep_out, keep_none, keep_first, keep_past, length_keep, pairwise_append, pairwise_keep, pairwise_map}
 use Rattle.laws.proofs.RowLaws.{numbers_in, numbers_out, numbers_rise, map_numbers, flat_length, flat_at}
 use Rattle.problem.specs.declared.Fault.{Fault}

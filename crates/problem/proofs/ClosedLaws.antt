@@ -1,5 +1,6 @@
 -- Closed arcs: each keeps its place, head, length and exposure and no way goes over it, so that ways, paths and what they are exposed to are those over open arcs;
 -- a set that closes nothing changes nothing. Assumes nothing.
+use Rattle.std.specs.Prelude.{if◌then◌else◌}
 use mathlib.Core.Path.{◌≡◌, refl, sym, ap, ap₂, ◌∙◌, subst}
 use mathlib.Core.Bool.{Bool, true, false}
 use mathlib.Core.Logic.{◌⊎◌, inl, inr, ◌↔◌}
@@ -8,7 +9,7 @@ use mathlib.Core.List.{List, [], ◌∷◌, Memᴰ}
 use Prim.Native.Nat.{ℕ, zero, suc, ◌+◌, ◌≤◌, ◌<◌, ◌^◌}
 use native.Mathlib.Omega.{arith}
 use lib.ListN.{length}
-use Rattle.laws.specs.Choosing.{if◌then◌else◌, Distinct}
+use Rattle.laws.specs.Choosing.{Distinct}
 use Rattle.laws.proofs.SetLaws.{bit_empty}
 use Rattle.problem.specs.declared.Arc.{Arc}
 use Rattle.problem.specs.Table.{last_node, risk_width, most_reach, Bytes, number_at, arcs_of, all_sound}

@@ -11,7 +11,7 @@ use lib.Dec.{eqb, leb, ltb, lit<}
 use lib.ListN.{length}
 use lib.Pow.{pow_mono}
 use borrow.Author.Tests.{eqb-true, eqb-false, eq-eqb, ne_eqb, leb-true, ltb-true}
-use Rattle.laws.specs.Choosing.{if◌then◌else◌}
+use Rattle.std.specs.Prelude.{if◌then◌else◌}
 use Rattle.laws.specs.Sets.{bit, in_both}
 use Rattle.laws.proofs.BoolLaws.{both}
 use Rattle.laws.proofs.SetLaws.{digit, bit_le_one, bit_empty, bit_and_lem, bit_or_lem, bit_pow, bit_full, bits_ext, ones_mono, ones_le, ones_or, ones_empty, ones_single, ones_common}

@@ -9,7 +9,7 @@ use native.Mathlib.Omega.{arith}
 use lib.Dec.{eqb, ltb}
 use lib.ListN.{length}
 use borrow.Author.Tests.{ltb-true, ltb-false, eqb-true, eqb-false, ne_eqb, not-true, not-false}
-use Rattle.laws.specs.Choosing.{if◌then◌else◌}
+use Rattle.std.specs.Prelude.{if◌then◌else◌}
 use Rattle.laws.specs.Sets.{bit}
 use Rattle.laws.proofs.BoolLaws.{or_cases, neither}
 use Rattle.laws.proofs.SetLaws.{bit_past, element_past}

@@ -1,12 +1,13 @@
 -- Two tests that say the same of every pair of routes have the same best pairs, settle at the same step and give the same verdict; and two meshes in which routes meet the same nodes
 -- have the same pairs apart. Assumes nothing.
+use Rattle.std.specs.Prelude.{if◌then◌else◌}
 use mathlib.Core.Path.{◌≡◌, ap, ap₂, ◌∙◌}
 use mathlib.Core.Bool.{Bool, ◌&&◌, ◌||◌, not}
 use mathlib.Core.List.{List, Memᴰ}
 use Prim.Native.Nat.{ℕ, ◌*◌, min}
 use lib.Dec.{eqb, leb}
 use lib.ListN.{length, take}
-use Rattle.laws.specs.Choosing.{if◌then◌else◌, keep, first_by}
+use Rattle.laws.specs.Choosing.{keep, first_by}
 use Rattle.laws.proofs.ListLaws.{take_mem}
 use Rattle.laws.proofs.FoldLaws.{keep_same}
 use Rattle.laws.proofs.FirstLaws.{least_same}

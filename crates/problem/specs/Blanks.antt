@@ -1,7 +1,6 @@
 -- Request T-09, Empty risk lists: a planner who does not know the risks of a span leaves their field blank, and the pair then looks wonderfully separate.
 -- A blank is no fault of the arc (`HasFault`): the mender leaves it for a person, who has to find out what the span runs through. Assumes nothing.
-use Rattle.std.specs.Prelude.{ℕ, ◌<◌, Bool, ◌&&◌, List, ◌≡◌, eqb, ltb}
-use Rattle.laws.specs.Choosing.{if◌then◌else◌}
+use Rattle.std.specs.Prelude.{ℕ, ◌<◌, Bool, ◌&&◌, List, ◌≡◌, eqb, ltb, if◌then◌else◌}
 use Rattle.problem.specs.declared.Arc.{Arc}
 use Rattle.problem.specs.Table.{first_told}
 

@@ -116,7 +116,7 @@ answer_b1 =
           ∷ 2 ∷ 3 ∷ 4 ∷ 255 ∷ 255 ∷ 255 ∷ 255 ∷ 255 ∷ 255 ∷ 255 ∷ 255 ∷ 255 ∷ 255 ∷ 255 ∷ 255 ∷ 255 ∷ 255 ∷ 255 ∷ 255 ∷ 255 ∷ 255 ∷ 255 ∷ 255 ∷ 255 ∷ 255 ∷ 255 ∷ 255 ∷ 255 ∷ 255 ∷ 255 ∷ 255 ∷ 255 ∷ [];
     }
 
--- of meshRaw: arc 0 with arc 1, 1,193,016 m and 1,193,017 m; the two of them share just what lies on every route
+-- of mesh_raw: arc 0 with arc 1, 1,193,016 m and 1,193,017 m; the two of them share just what lies on every route
 abbrev pub answer_raw : Answer
 answer_raw =
     record {

@@ -1,8 +1,7 @@
 -- Request T-06, Works this weekend: a closed arc lies on no route and gives no distance. It stays in its place, so that numbers stay, but begins at no node, so that no way goes over it:
 -- whatever the other definitions say of arcs then holds of the open ones (`ways_open` and `routes_open` of proofs/Promises.antt). Assumes nothing.
-use Rattle.std.specs.Prelude.{ℕ, suc, ◌/◌, Bool, true, ◌≡◌, eqb, replicate}
+use Rattle.std.specs.Prelude.{ℕ, suc, ◌/◌, Bool, true, ◌≡◌, eqb, replicate, if◌then◌else◌}
 use mathlib.Core.List.{List, [], ◌∷◌, Memᴰ}
-use Rattle.laws.specs.Choosing.{if◌then◌else◌}
 use Rattle.laws.specs.Sets.{bit}
 use Rattle.problem.specs.declared.Arc.{Arc}
 use Rattle.problem.specs.Table.{nodes, most_in_table, number_at}

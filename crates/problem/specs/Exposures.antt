@@ -1,10 +1,9 @@
 -- What an arc or a route is exposed to, its risks and its spans; what two of them have in common, and how many that is. But for the reply's field of shared risks and
 -- its count of shared spans, no other definition of the problem knows how many of these there can be, or that they are the bits of numbers; what is proved of it is in proofs/ExposureLaws.antt.
 -- Spans are known by their first arcs, counted from 1 (Spans.antt): span s is bit s - 1, the first 64 in the field `low`, the next 64 in the field `high`. Assumes nothing.
-use Rattle.std.specs.Prelude.{ℕ, ◌+◌, ◌-◌, ◌/◌, ◌%◌, ◌^◌, Bool, ◌&&◌, eqb, leb, ltb}
+use Rattle.std.specs.Prelude.{ℕ, ◌+◌, ◌-◌, ◌/◌, ◌%◌, ◌^◌, Bool, ◌&&◌, eqb, leb, ltb, if◌then◌else◌}
 use Rattle.std.specs.Int.Bits.{bit_and, bit_or}
 use Rattle.std.specs.Int.Count.{ones_in}
-use Rattle.laws.specs.Choosing.{if◌then◌else◌}
 use Rattle.laws.specs.Sets.{bit}
 use Rattle.problem.specs.declared.Arc.{Arc}
 use Rattle.problem.specs.declared.Exposure.{Exposure}

@@ -1,7 +1,7 @@
 -- Request T-01, Mending tables from the field: which arcs are kept, what is changed or lost, the two outputs of the mender, and what a reader makes of the list. Assumes nothing.
-use Rattle.std.specs.Prelude.{ℕ, zero, suc, ◌+◌, ◌*◌, ◌/◌, ◌%◌, ◌≤◌, ◌<◌, Bool, true, false, ◌&&◌, ◌||◌, ◌≡◌, eqb, leb, ltb, length, get_or, take, replicate}
+use Rattle.std.specs.Prelude.{ℕ, zero, suc, ◌+◌, ◌*◌, ◌/◌, ◌%◌, ◌≤◌, ◌<◌, Bool, true, false, ◌&&◌, ◌||◌, ◌≡◌, eqb, leb, ltb, length, get_or, take, replicate, if◌then◌else◌}
 use mathlib.Core.List.{List, [], ◌∷◌, ◌++◌, map, flat_map}
-use Rattle.laws.specs.Choosing.{if◌then◌else◌, numbers_from, keep}
+use Rattle.laws.specs.Choosing.{numbers_from, keep}
 use Rattle.problem.specs.declared.Fault.{Fault}
 use Rattle.problem.specs.declared.Fault.TheVariants.{Sound, Node, EqualEnds, Length}
 use Rattle.problem.specs.declared.Reason.{Reason}

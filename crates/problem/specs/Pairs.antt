@@ -1,7 +1,7 @@
 -- 01, Routes and their ranking, When a reply is settled: pairs and their judgement, best(j), the floor, settled, J. Ranks are counted from 1.
 -- All of it speaks of the pairs that pass a test `ok`; 01 has every pair (`every`). Assumes nothing.
-use Rattle.std.specs.Prelude.{ℕ, ◌+◌, ◌*◌, ◌-◌, ◌≤◌, ◌<◌, min, Bool, true, ◌&&◌, ◌||◌, not, List, [], ◌∷◌, ◌++◌, map, ◌≡◌, eqb, leb, ltb, length, get_or, take}
-use Rattle.laws.specs.Choosing.{if◌then◌else◌, keep, least_from, lex_by, first_by}
+use Rattle.std.specs.Prelude.{ℕ, ◌+◌, ◌*◌, ◌-◌, ◌≤◌, ◌<◌, min, Bool, true, ◌&&◌, ◌||◌, not, List, [], ◌∷◌, ◌++◌, map, ◌≡◌, eqb, leb, ltb, length, get_or, take, if◌then◌else◌}
+use Rattle.laws.specs.Choosing.{keep, least_from, lex_by, first_by}
 use Rattle.problem.specs.declared.Exposure.{Exposure}
 use Rattle.problem.specs.Exposures.{to_nothing, to_all, common, spans_in, size, sharing}
 use Rattle.problem.specs.Routes.{Route, rank_key}

@@ -1,8 +1,7 @@
 -- 01, The program `routes`: kilometres, and the bytes printed for what is read. Assumes nothing.
 use Prim.Native.Char.{code}
-use Rattle.std.specs.Prelude.{ℕ, zero, suc, ◌+◌, ◌/◌, ◌%◌, ◌≤◌, ◌<◌, Bool, true, false, ◌||◌, not, List, [], ◌∷◌, ◌++◌, ◌≡◌, eqb, ltb, length, get_or, drop}
+use Rattle.std.specs.Prelude.{ℕ, zero, suc, ◌+◌, ◌/◌, ◌%◌, ◌≤◌, ◌<◌, Bool, true, false, ◌||◌, not, List, [], ◌∷◌, ◌++◌, ◌≡◌, eqb, ltb, length, get_or, drop, if◌then◌else◌}
 use Prim.Native.String.{String}
-use Rattle.laws.specs.Choosing.{if◌then◌else◌}
 use Rattle.problem.specs.Table.{reply_size, number_at}
 use Rattle.problem.specs.declared.Request.{Request}
 use Rattle.problem.specs.Reply.{request, Answer, answer, refuse, verdict_in, shared_in, floor_in, ranked_in, main_metres_in, standby_metres_in, main_in, standby_in}

@@ -1,7 +1,6 @@
 -- Request T-03, Two routes in one span: equal numbers anywhere in the table are one span, and 0 is none. A span is known by the first arc that has its number, so that
 -- what a route crosses is a set of arcs, of which there are at most 128, whatever the numbers are. Assumes nothing.
-use Rattle.std.specs.Prelude.{ℕ, suc, List, [], ◌∷◌, map, eqb}
-use Rattle.laws.specs.Choosing.{if◌then◌else◌}
+use Rattle.std.specs.Prelude.{ℕ, suc, List, [], ◌∷◌, map, eqb, if◌then◌else◌}
 use Rattle.problem.specs.declared.Arc.{Arc}
 use Rattle.problem.specs.Table.{arcs_of}
 

@@ -1,6 +1,5 @@
 -- 01, The span table: the limits, numbers in bytes, the arc of 16 bytes, its faults, the table. Assumes nothing.
-use Rattle.std.specs.Prelude.{ℕ, zero, suc, ◌+◌, ◌*◌, ◌/◌, ◌%◌, ◌≤◌, ◌<◌, Bool, ◌||◌, List, [], ◌∷◌, ◌++◌, ◌≡◌, eqb, ltb, length, get_or, take, drop}
-use Rattle.laws.specs.Choosing.{if◌then◌else◌}
+use Rattle.std.specs.Prelude.{ℕ, zero, suc, ◌+◌, ◌*◌, ◌/◌, ◌%◌, ◌≤◌, ◌<◌, Bool, ◌||◌, List, [], ◌∷◌, ◌++◌, ◌≡◌, eqb, ltb, length, get_or, take, drop, if◌then◌else◌}
 use Rattle.problem.specs.declared.Arc.{Arc}
 use Rattle.problem.specs.declared.Fault.{Fault}
 use Rattle.problem.specs.declared.Fault.TheVariants.{Sound, Node, EqualEnds, Length}
@@ -27,7 +26,7 @@ most_shared = risk_width + most_arcs
 abbrev pub most_arc_metres : ℕ
 most_arc_metres = 2000000
 
--- the largest reach. No route is longer, whatever the reach: mostArcs arcs of mostArcMetres (`no_path_longer` of proofs/Promises.antt)
+-- the largest reach. No route is longer, whatever the reach: most_arcs arcs of most_arc_metres (`no_path_longer` of proofs/Promises.antt)
 abbrev pub most_reach : ℕ
 most_reach = 62000000
 

@@ -4,7 +4,6 @@ pub mod RelaxLaws
 pub mod SearchLaws
 pub mod WalkLaws
 pub mod FinishLaws
-pub mod HandedLaws
 pub mod TailsLaws
 pub mod NearestLaws
 pub mod FairLaws

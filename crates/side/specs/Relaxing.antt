@@ -1,7 +1,6 @@
 -- Relaxing: what an arc does to the entries of its tail and its head, what is done when a node is finished, and how nodes are opened. Assumes nothing.
-use Rattle.std.specs.Prelude.{◌≡◌, Bool, true, false, ◌&&◌, ◌||◌, not, ℕ, ◌+◌, ◌^◌, ◌≤◌, ◌<◌, eqb, ltb, length, get_or, set, replicate}
+use Rattle.std.specs.Prelude.{◌≡◌, Bool, true, false, ◌&&◌, ◌||◌, not, ℕ, ◌+◌, ◌^◌, ◌≤◌, ◌<◌, eqb, ltb, length, get_or, set, replicate, if◌then◌else◌}
 use mathlib.Core.List.{List, foldl}
-use Rattle.laws.specs.Choosing.{if◌then◌else◌}
 use Rattle.laws.specs.Sets.{bit, with}
 use Rattle.problem.specs.declared.Arc.{Arc}
 use Rattle.problem.specs.declared.Exposure.{Exposure}

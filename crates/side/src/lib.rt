@@ -172,7 +172,7 @@ fn finish(entries: &mut [Distance], table: &[u8], into: &[u8], v: u8, banned: Ex
     }
 }
 
-// Lends a table to `finish`, so that its own callers hold theirs by value and need no walk.
+// Lends a table to `finish`, so that its own callers hold theirs by value.
 fn finish_in(
     entries: [Distance; problem::NODES],
     table: &[u8],

@@ -64,7 +64,7 @@ module _ (m : Mesh) where
     pub avoids_last : {v : ℕ} (k : ℕ) (ks : List ℕ) → Way m.arcs v m.terminal (k ∷ ks) → Avoids m off (k ∷ ks) → last_of k ks ≡ off.last → ⊥
     unfolding last_of
     avoids_last k [] (Way.over l t (Way.there e)) (Avoids.one p q o) = q e
-    avoids_last k (j ∷ ks) (Way.over l t w) (Avoids.one p q o) = avoids_last j ks w o
+    avoids_last {v = v} k (j ∷ ks) (Way.over l t w) (Avoids.one p q o) = avoids_last {v = (arc_at m.arcs k).head} j ks w o
 
     avoids_nodes : (v : ℕ) {ks : List ℕ} → Avoids m off ks → (u : ℕ) → Memᴰ u (nodes_from m.arcs v ks) → (v ≡ u → ⊥) → bit off.nodes u ≡ 0
     unfolding nodes_from

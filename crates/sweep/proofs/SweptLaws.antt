@@ -8,7 +8,7 @@ use lib.Dec.{ltb}
 use lib.ListN.{length, take, length-take}
 use lib.Seq.{take_all}
 use borrow.Author.Tests.{le-leb, lt-leb, ltb-true, ltb-false}
-use Rattle.laws.specs.Choosing.{if◌then◌else◌}
+use Rattle.std.specs.Prelude.{if◌then◌else◌}
 use Rattle.laws.proofs.FoldLaws.{fold_keep}
 use Rattle.problem.specs.Routes.{Mesh, paths, Route, route_of, routes_from, within, ranking, count, shorter}
 use Rattle.problem.proofs.GrowthLaws.{fold_same}

@@ -1,7 +1,6 @@
 -- A sweep: every route of a window of lengths, met in any order, is tried as a main and brings a tally up to date. Assumes nothing.
-use Rattle.std.specs.Prelude.{ℕ, ◌+◌, ◌≤◌, ◌<◌, Bool, false, ◌≡◌, ltb}
+use Rattle.std.specs.Prelude.{ℕ, ◌+◌, ◌≤◌, ◌<◌, Bool, false, ◌≡◌, ltb, if◌then◌else◌}
 use mathlib.Core.List.{List, Memᴰ}
-use Rattle.laws.specs.Choosing.{if◌then◌else◌}
 use Rattle.problem.specs.Table.{last_node, most_reach}
 use Rattle.problem.specs.Routes.{Mesh, metres_of, paths}
 use Rattle.net.specs.declared.Behind.{Behind}

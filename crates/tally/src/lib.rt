@@ -27,8 +27,7 @@ fn count_main(metres: u64, best: u64, t: Tally) -> Tally
     }
 }
 
-// Brings a lent tally up to date by one more main (01, When a reply is settled). Thin, because a function over a lent struct is proved by a walk by hand:
-// the work is `count_main`'s, and the standbys were tried before.
+// Brings a lent tally up to date by one more main (01, When a reply is settled). Thin: the work is `count_main`'s, and the standbys were tried before.
 fn step(t: &mut Tally, metres: u64, best: u64)
     requires { t.old.ranked < 2 ^ 64 - 1 }
     ensures { t.new ≡ counted metres best t.old }
@@ -38,7 +37,7 @@ fn step(t: &mut Tally, metres: u64, best: u64)
     *t = w;
 }
 
-// The tally after it was lent to one step. Who calls this holds the tally by value, and needs no walk.
+// The tally after it was lent to one step. Who calls this holds the tally by value.
 pub fn one_more(metres: u64, best: u64, t: Tally) -> Tally
     requires { t.ranked < 2 ^ 64 - 1 }
     ensures { result ≡ counted metres best t }
