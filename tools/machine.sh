@@ -1,34 +1,29 @@
 # shellcheck shell=bash
 # How this machine runs x86-64 programs, and what it lacks to build them. To be sourced, from the repository's folder.
-# The planner is x86-64: elsewhere Debian's cross compiler builds its hosts, and the kit's emulator runs them.
+# The planner is x86-64, and so is the kit: elsewhere Debian's cross compiler builds its hosts, and Debian's emulator runs them.
 #
 #   ${cross}gcc, ${cross}g++    compilers that build for x86-64
 #   "${emulator[@]}"            stands before a static x86-64 program to run it; empty on x86-64
-#   find_loader                 leaves in "${loader[@]}" what stands before a program that `rt check` has linked
+#   find_loader                 leaves in "${loader[@]}" what stands before a program that `rt run` has linked
 #   need PACKAGE THING..        installs the Debian package where one of these files or commands is missing
 #   need_compilers              the two compilers, with a C library to link
 #   need_rust                   rustc, with a linker for it
 #   need_kit                    the Rattle kit; nothing installs it
 
-kit() { dirname "$(dirname "$(rt doc)")"; }
+kit() { dirname "$(rt doc)"; }
 
 cross=
 emulator=()
 if [ "$(uname -m)" != x86_64 ]; then
     cross=x86_64-linux-gnu-
     # shellcheck disable=SC2034  # for the script that sources this
-    if command -v rt > /dev/null; then
-        emulator=("$(kit)/on/$(uname -m)/toolchain/bin/qemu-x86_64")
-    else
-        emulator=(qemu-x86_64)
-    fi
+    emulator=(qemu-x86_64)
 fi
 
 # A linked program wants the kit's own loader and C library.
 find_loader() {
     local lib
-    lib=$(kit)/on/$(uname -m)/toolchain/lib
-    [ -e "$lib/ld-linux-x86-64.so.2" ] || lib=$(kit)/toolchain/lib
+    lib=$(kit)/toolchain/lib
     # shellcheck disable=SC2034  # for the script that sources this
     loader=("${emulator[@]}" "$lib/ld-linux-x86-64.so.2" --library-path "$lib")
 }
