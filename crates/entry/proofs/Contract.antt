@@ -1,4 +1,4 @@
--- The contracts of the exported entries, as they stand in src/lib.rt, are what the page of promises speaks of: `CalledAround`, of the entry that takes no closed set `Called`, and of the one
+-- The contracts of the entries, as they stand in src/lib.rt, are what the page of promises speaks of: `CalledAround`, of the entry that takes no closed set `Called`, and of the one
 -- whose pairs are apart `CalledApart`. A contract that says something else is refused here. Assumes nothing.
 use Prim.Native.Nat.{ℕ}
 use contract.Lifetimes.{Lfts}

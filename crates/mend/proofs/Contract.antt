@@ -1,4 +1,4 @@
--- The contract of the exported entry, as it stands in src/lib.rt, is what the page of promises speaks of: `Mends`. A contract that says something else is refused here. Assumes nothing.
+-- The contract of the entry, as it stands in src/lib.rt, is what the page of promises speaks of: `Mends`. A contract that says something else is refused here. Assumes nothing.
 use contract.Lifetimes.{Lfts}
 use borrow.Fn.Kinds.{Dens, ended_of}
 use denote.Triple.Clauses.{AtExit}

@@ -1,4 +1,4 @@
-// Tables from the field mended (T-01): a clean table, and the list of what was changed or lost. The mender's entry, exported for C, stands at the end.
+// Tables from the field mended (T-01): a clean table, and the list of what was changed or lost. The mender's entry, which mend_c exports for C, stands at the end.
 #![tactic(auto)]
 
 ghost use Rattle.std.specs.Prelude.{◌≡◌, [], ◌+◌, ◌≤◌, length, if◌then◌else◌};
@@ -221,8 +221,7 @@ fn refusal(input: &[u8], table_size: usize, list_size: usize) -> u32
 }
 
 // Mends, for any input and outputs: the number is 0 and both outputs are written, or it is a refusal's and neither is.
-#[unsafe(no_mangle)]
-pub extern "C" fn feshangul_mend(input: &[u8], table: &mut [u8], list: &mut [u8]) -> Mended
+pub fn feshangul_mend(input: &[u8], table: &mut [u8], list: &mut [u8]) -> Mended
     ensures { MendsBy input.now table.old list.old result table.new list.new }
 {
     let n = refusal(input, table.len(), list.len());
