@@ -2,7 +2,6 @@
 use mathlib.Core.Path.{refl}
 use Rattle.cores.proofs.CoreLaws.{stored_none}
 use Rattle.planner.proofs.PlannerLaws.{laid_planning, made_planned}
-use borrow.Author.Rules.{rules}
 use Rattle.planner.proofs.plan_net.Goals as goal
 
 pub plan-run-requires : goal.plan-run-requires
