@@ -1,14 +1,14 @@
 -- Counting goes over the arcs of a node as a sweep does: from arc to arc of its chain, and on from each head that was not met. Assumes nothing.
 use mathlib.Core.Path.{◌≡◌, sym, ap, ◌∙◌}
-use mathlib.Core.List.{List}
-use Prim.Native.Nat.{ℕ, ◌+◌, ◌≤◌, ◌<◌}
+use Prim.Native.Nat.{ℕ, ◌≤◌, ◌<◌}
 use native.Mathlib.Omega.{arith}
 use lib.ListN.{length}
 use Rattle.laws.specs.Sets.{unmet}
 use Rattle.problem.specs.Table.{last_node}
 use Rattle.problem.specs.Routes.{arc_at}
+use Rattle.net.specs.declared.Net.{Net}
 use Rattle.net.specs.declared.Behind.{Behind}
-use Rattle.net.specs.Net.{first_from, lower_from, word_at, next_of, arcs_in, mesh_in, Net}
+use Rattle.net.specs.Net.{next_of, arcs_in, mesh_in, IsNet, lower_at, first_at}
 use Rattle.net.proofs.SearchLaws.{Place, place_first, place_next, next_past, head_node, fewer}
 use Rattle.look.specs.declared.Leg.TheVariants.{Leads}
 use Rattle.look.specs.Look.{leg_at}
@@ -20,11 +20,11 @@ abbrev idle : ℕ → Behind → ℕ → ℕ
 idle s e k = s
 
 -- the count stands at arc i of the node's chain
-abbrev pub Stands : List ℕ → Behind → ℕ → ℕ → Type 0
+abbrev pub Stands : Net → Behind → ℕ → ℕ → Type 0
 Stands net b at i = Place net idle b at i
 
-module _ (net : List ℕ) (words : Net net) (b : Behind) (at : ℕ) where
-  pub stands_first : at ≤ last_node → Stands net b at (word_at net (first_from + at))
+module _ (net : Net) (words : IsNet net) (b : Behind) (at : ℕ) where
+  pub stands_first : at ≤ last_node → Stands net b at (first_at net at)
   stands_first node = place_first net idle b at words node
 
   module _ {i : ℕ} (stands : Stands net b at i) (inside : i < length (arcs_in net)) where
@@ -37,7 +37,7 @@ module _ (net : List ℕ) (words : Net net) (b : Behind) (at : ℕ) where
     -- from the head of an arc that leads on: one node fewer is left
     pub leads_ready : {hi h : ℕ} {e : Behind} → Sweeping net hi at b.metres → leg_at net hi b i ≡ Leads h e → Sweeping net hi h e.metres × (unmet 32 e.met < unmet 32 b.met)
     leads_ready {hi} {h} {e} r q =
-        let o = leads_is (mesh_in net).terminal hi (word_at net (lower_from + (arc_at (arcs_in net) i).head)) b (arc_at (arcs_in net) i) q in (
+        let o = leads_is (mesh_in net).terminal hi (lower_at net (arc_at (arcs_in net) i).head) b (arc_at (arcs_in net) i) q in (
           record {
             words = words;
             node = omega (arith, o.head_is, head_node net idle b at words stands inside);

@@ -1,1 +1,2 @@
 pub mod ArcLaws
+pub mod LookedLaws

@@ -5,10 +5,10 @@ ghost use Rattle.std.specs.Prelude.{◌≡◌, ◌+◌, ◌*◌, ◌≤◌, leng
 ghost use Rattle.problem.specs.Table.{most_table_bytes, arc_of, arcs_of, fault_of, arcs_number};
 ghost use Rattle.problem.specs.Blanks.{is_blank, blanks_number};
 ghost use Rattle.problem.specs.Routes.{arc_at};
+ghost use Rattle.problem.specs.Refusals.{told};
+ghost use Rattle.arcs.specs.Looked.{FirstRefused};
 
-use problem::{ARC_BYTES, Arc, Fault, LAST_NODE, MOST_ARC_METRES};
-
-const BLANK: u32 = 24;
+use problem::{ARC_BYTES, Arc, Fault, LAST_NODE, MOST_ARC_METRES, Refusal};
 
 // The arc that sixteen bytes say.
 pub fn read_arc(bytes: &[u8]) -> Arc
@@ -34,66 +34,60 @@ pub fn arc_at(table: &[u8], i: usize) -> Arc
     read_arc(&table[start..end])
 }
 
-// The first fault of an arc.
-pub fn fault(a: Arc) -> Fault
+// The first fault of an arc, if it has any.
+#[tactic(auto, using(laws::proofs::Picks::picks), unfolding(problem::specs::Table::fault_of))]
+pub fn fault(a: Arc) -> Option<Fault>
     ensures { result ≡ fault_of a }
 {
-    if LAST_NODE < a.tail {
-        return Fault::Node;
+    if LAST_NODE < a.tail || LAST_NODE < a.head {
+        Some(Fault::Node)
+    } else if a.tail == a.head {
+        Some(Fault::EqualEnds)
+    } else if MOST_ARC_METRES < a.metres {
+        Some(Fault::Length)
+    } else {
+        None
     }
-    if LAST_NODE < a.head {
-        return Fault::Node;
-    }
-    if a.tail == a.head {
-        return Fault::EqualEnds;
-    }
-    if MOST_ARC_METRES < a.metres {
-        return Fault::Length;
-    }
-    Fault::Sound
-}
-
-// The number for the lowest arc of the table that has a fault: that of its first fault, and 256 times the arc's number. 0 where none has.
-// Asked for once the table is known to be no longer than the largest, so that the number fits.
-pub fn refusal(table: &[u8]) -> u32
-    requires { length table.now ≤ most_table_bytes }
-    ensures { result ≡ arcs_number (arcs_of table.now) }
-{
-    let n = table.len() / ARC_BYTES;
-    let mut k: usize = 0;
-    while k < n {
-        let f = fault(arc_at(table, k));
-        let m = problem::fault_number(f);
-        if m != 0 {
-            return m + 256 * (k as u32);
-        }
-        k = k + 1;
-    }
-    0
 }
 
 // An arc of more than 0 metres for which no risk is listed (T-09). That is no fault of the arc: the mender, which asks for faults alone, leaves it.
+#[tactic(auto, unfolding(problem::specs::Blanks::is_blank))]
 pub fn is_blank(a: Arc) -> bool
     ensures { result ≡ is_blank a }
 {
-    if a.metres == 0 {
-        return false;
-    }
-    a.risks == 0
+    0 < a.metres && a.risks == 0
 }
 
-// The number for the lowest such arc of the table: 24, and 256 times the arc's number. 0 where there is none.
-pub fn blank_refusal(table: &[u8]) -> u32
-    requires { length table.now ≤ most_table_bytes }
-    ensures { result ≡ blanks_number (arcs_of table.now) }
+// Refuses the lowest arc of the table of which `refused` tells a refusal.
+// Asked for once the table is known to be no longer than the largest, so that the arc's number fits.
+fn check_each<F: Fn(Arc, u8) -> Option<Refusal> + Drop>(
+    table: &[u8],
+    refused: F,
+) -> Result<(), Refusal>
+    requires few { length table.now ≤ most_table_bytes }
+    requires callable { F.IsAlwaysCallable refused }
+    ensures { FirstRefused (F.post refused) (arcs_of table.now) result }
 {
-    let count = table.len() / ARC_BYTES;
-    let mut i: usize = 0;
-    while i < count {
-        if is_blank(arc_at(table, i)) {
-            return BLANK + 256 * (i as u32);
+    for k in 0..table.len() / ARC_BYTES {
+        if let Some(r) = refused(arc_at(table, k), k as u8) {
+            return Err(r);
         }
-        i = i + 1;
     }
-    0
+    Ok(())
+}
+
+// Refuses the lowest arc that has a fault, by its first one.
+pub fn check_faults(table: &[u8]) -> Result<(), Refusal>
+    requires { length table.now ≤ most_table_bytes }
+    ensures { told result ≡ arcs_number (arcs_of table.now) }
+{
+    check_each(table, |a, k| fault(a).map(|f| Refusal::FaultyArc(f, k)))
+}
+
+// Refuses the lowest arc that is blank.
+pub fn check_blanks(table: &[u8]) -> Result<(), Refusal>
+    requires { length table.now ≤ most_table_bytes }
+    ensures { told result ≡ blanks_number (arcs_of table.now) }
+{
+    check_each(table, |a, k| is_blank(a).then_some(Refusal::BlankArc(k)))
 }

@@ -1,7 +1,7 @@
 -- What a main bars its standbys from. Assumes nothing.
 use mathlib.Core.Path.{◌≡◌, refl, sym, ap, ◌∙◌, subst}
 use mathlib.Core.Logic.{◌⊎◌, inl, inr, ◌↔◌}
-use mathlib.Core.Bool.{Bool, true, false, not}
+use mathlib.Core.Bool.{Bool, true, false}
 use mathlib.Core.List.Memᴰ
 use mathlib.Core.List.{List, [], ◌∷◌, Memᴰ}
 use Prim.Native.Nat.{ℕ, ◌≤◌, ◌<◌}
@@ -21,30 +21,31 @@ use Rattle.problem.proofs.RouteLaws.{Grown, first_node, grow_out, grow_in, grown
 use Rattle.problem.proofs.PathLaws.{LowHeads, sound_heads}
 use Rattle.problem.proofs.GrowthLaws.{grow_source}
 use Rattle.problem.proofs.ApartLaws.{apart_exactly, one_arc}
+use Rattle.net.specs.declared.Net.{Net}
 use Rattle.net.specs.declared.Behind.{Behind}
-use Rattle.net.specs.Net.{Net, arcs_in, mesh_in}
+use Rattle.net.specs.Net.{IsNet, arcs_in, mesh_in}
 use Rattle.net.specs.Search.{start, onto, along, last_of, no_arc}
 use Rattle.bars.specs.declared.Barred.{Barred}
 use Rattle.bars.specs.Bars.{barred, nothing_barred, ends_of, barred_by, barred_by_list, unbarred}
 
 -- ---- what was computed
 
-module _ (m : Mesh) (word met last : ℕ) where
+module _ (m : Mesh) (met last : ℕ) {only : Bool} where
   -- every pair is judged
-  pub barred_nothing : word ≡ 0 → nothing_barred ≡ barred_by (not (eqb word 0)) m met last
+  pub barred_nothing : only ≡ false → nothing_barred ≡ barred_by only m met last
   unfolding barred_by
-  barred_nothing e = rw (eq-eqb word 0 e)
+  barred_nothing e = rw e
 
-  module _ (only : word ≡ 0 → ⊥) {ends between : ℕ} (e : ends ≡ ends_of m) (b : between ≡ without met ends) where
+  module _ (e : only ≡ true) {ends between : ℕ} (f : ends ≡ ends_of m) (b : between ≡ without met ends) where
     -- the main is one arc
-    pub barred_arc : between ≡ 0 → barred 0 last ≡ barred_by (not (eqb word 0)) m met last
+    pub barred_arc : between ≡ 0 → barred 0 last ≡ barred_by only m met last
     unfolding barred_by
-    barred_arc z = rw (ne_eqb word 0 only, ← e, ← b, eq-eqb between 0 z)
+    barred_arc z = rw (e, ← f, ← b, eq-eqb between 0 z)
 
     -- it meets other nodes than the ends
-    pub barred_nodes : (between ≡ 0 → ⊥) → barred between no_arc ≡ barred_by (not (eqb word 0)) m met last
+    pub barred_nodes : (between ≡ 0 → ⊥) → barred between no_arc ≡ barred_by only m met last
     unfolding barred_by
-    barred_nodes some = rw (ne_eqb word 0 only, ← e, ← b, ne_eqb between 0 some)
+    barred_nodes some = rw (e, ← f, ← b, ne_eqb between 0 some)
 
 -- ---- what the standbys that keep off it are
 
@@ -55,7 +56,7 @@ pub record Regular (m : Mesh) : Type 0 where
   pub source_node : m.source ≤ last_node
   pub ends_differ : m.source ≡ m.terminal → ⊥
 
-pub net_regular : (net : List ℕ) → Net net → Regular (mesh_in net)
+pub net_regular : (net : Net) → IsNet net → Regular (mesh_in net)
 net_regular net n = record { few = n.few; heads = sound_heads (arcs_in net) n.sound; source_node = n.source_node; ends_differ = n.ends_differ }
 
 -- the nodes met at the end of a list

@@ -3,8 +3,10 @@
 #![tactic(auto)]
 
 ghost use Rattle.std.specs.Prelude.{◌≡◌};
-ghost use Rattle.net.specs.Net.{Net, mesh_in, apart_only};
+ghost use Rattle.net.specs.Net.{IsNet, mesh_in};
 ghost use Rattle.bars.specs.Bars.{nothing_barred, barred_by};
+
+use net::Net;
 
 // Nodes that a standby must not meet, and an arc that it must not end with.
 #[derive(Clone, Copy)]
@@ -13,7 +15,7 @@ pub struct Barred {
     pub last: u64,
 }
 
-// No arc has this number.
+// No arc has this number, and no Option says it: what a list of arcs ends with is compared with it, arc or none (`last_of` of net).
 pub const NO_ARC: u64 = 255;
 
 pub fn nothing() -> Barred
@@ -26,15 +28,15 @@ pub fn nothing() -> Barred
 }
 
 // What a main bars that meets these nodes and ends with this arc.
-pub fn barred_by(net: &[u64], met: u64, last: u64) -> Barred
-    requires { Net net.now }
-    ensures { result ≡ barred_by (apart_only net.now) (mesh_in net.now) met last }
+pub fn barred_by(net: &Net, met: u64, last: u64) -> Barred
+    requires { IsNet net.now }
+    ensures { result ≡ barred_by net.now.apart (mesh_in net.now) met last }
 {
-    if net::apart(net) == 0 {
+    if !net.apart() {
         return nothing();
     }
-    let source = sets::with(0, net::source(net) as u8);
-    let ends = sets::with(source, net::terminal(net) as u8);
+    let source = sets::with(0, net.source() as u8);
+    let ends = sets::with(source, net.terminal() as u8);
     let between = sets::without(met, ends);
     if between == 0 {
         return Barred {

@@ -1,19 +1,16 @@
 -- The arcs of one tail, or of one head, chained. Assumes nothing.
 use Rattle.std.specs.Prelude.{ℕ, ◌+◌, ◌≤◌, ◌<◌, List, ◌≡◌, length, get_or}
 use Rattle.problem.specs.declared.Arc.{Arc}
-use Rattle.problem.specs.Table.{last_node, nodes, most_in_table}
+use Rattle.problem.specs.Table.{last_node, most_in_table}
 use Rattle.problem.specs.Routes.{arc_at}
+use Rattle.chain.specs.declared.Chain.{Chain}
 use Rattle.chain.specs.declared.End.{End}
 
--- a byte for each node, and one for each arc that a table can have
-abbrev pub chain_size : ℕ
-chain_size = nodes + most_in_table
+abbrev pub first_in : Chain → ℕ → ℕ
+first_in chain v = get_or chain.first v 0
 
-abbrev pub first_in : List ℕ → ℕ → ℕ
-first_in chain v = get_or chain v 0
-
-abbrev pub next_in : List ℕ → ℕ → ℕ
-next_in chain i = get_or chain (nodes + i) 0
+abbrev pub next_in : Chain → ℕ → ℕ
+next_in chain k = get_or chain.next k 0
 
 -- the arc's node at that end
 unfoldable pub end_of : End → Arc → ℕ
@@ -34,8 +31,7 @@ module _ (node : Arc → ℕ) (arcs : List Arc) where
     pub here : j < length arcs → node (arc_at arcs j) ≡ v
 
   -- from the first arc of each node, and from each arc onwards, what is passed over has another node at this end
-  pub record Chain (chain : List ℕ) : Type 0 where
-    pub size : length chain ≡ chain_size
+  pub record ChainedBy (chain : Chain) : Type 0 where
     pub first : (v : ℕ) → v ≤ last_node → NextBy v 0 (first_in chain v)
     pub next : (i : ℕ) → i < length arcs → NextBy (node (arc_at arcs i)) (i + 1) (next_in chain i)
 

@@ -1,38 +1,42 @@
 // The arcs of one tail, chained, so that a search at a node passes over the arcs that leave other nodes; and so the arcs of one head.
-// A byte for each node is its first arc, a byte behind them for each arc the next arc of the same end; the number of arcs ends a chain.
 #![tactic(auto)]
 
-ghost use Rattle.std.specs.Prelude.{◌≡◌, ◌≤◌, ◌<◌, length};
+ghost use Rattle.std.specs.Prelude.{◌≡◌, ◌≤◌, ◌<◌};
 ghost use Rattle.problem.specs.Table.{last_node, most_in_table, arcs_of};
-ghost use Rattle.chain.specs.Chain.{chain_size, first_in, next_in, end_of, Chain, Chainable};
+ghost use Rattle.chain.specs.Chain.{first_in, next_in, end_of, Chainable, ChainedBy};
 
 use problem::{ARC_BYTES, Arc, MOST_IN_TABLE, NODES};
 
-pub const SIZE: usize = NODES + MOST_IN_TABLE;
+// For each node its first arc, and for each arc the next of the same end; the number of arcs ends a chain.
+#[derive(Clone, Copy)]
+pub struct Chain {
+    first: [u8; NODES],
+    next: [u8; MOST_IN_TABLE],
+}
 
-// By which end arcs are chained.
+impl Chain {
+    // The first arc with this end at v.
+    pub fn first(&self, v: u8) -> u8
+        requires { v ≤ last_node }
+        ensures { result ≡ first_in self.now v }
+    {
+        self.first[v as usize]
+    }
+
+    // The next arc of the same end as arc k.
+    pub fn next(&self, k: usize) -> u8
+        requires { k < most_in_table }
+        ensures { result ≡ next_in self.now k }
+    {
+        self.next[k]
+    }
+}
+
+// By which end arcs are chained: an enum and no closure, since what a chain says (`ChainedBy`) names the end, and a clause knows a closure by its calls alone.
 #[derive(Clone, Copy)]
 pub enum End {
     Tail,
     Head,
-}
-
-// The first arc with this end at v.
-pub fn first(chain: &[u8], v: u8) -> u8
-    requires { (length chain.now ≡ chain_size) × (v ≤ last_node) }
-    ensures { result ≡ first_in chain.now v }
-{
-    let at = v as usize;
-    chain[at]
-}
-
-// The next arc of the same end as arc i.
-pub fn next(chain: &[u8], i: usize) -> u8
-    requires { (length chain.now ≡ chain_size) × (i < most_in_table) }
-    ensures { result ≡ next_in chain.now i }
-{
-    let at = NODES + i;
-    chain[at]
 }
 
 // The arc's node at that end.
@@ -46,20 +50,22 @@ fn end_of(a: Arc, end: End) -> u8
 }
 
 // The chain of a table by one end, made from its last arc down: each arc comes before those of its node.
-pub fn chained(table: &[u8], end: End) -> [u8; SIZE]
+pub fn chained(table: &[u8], end: End) -> Chain
     requires { Chainable (end_of end) (arcs_of table.now) }
-    ensures { Chain (end_of end) (arcs_of table.now) result }
+    ensures { ChainedBy (end_of end) (arcs_of table.now) result }
 {
     let n = table.len() / ARC_BYTES;
-    let mut chain = [n as u8; SIZE];
-    let mut i = n;
-    while 0 < i {
-        i = i - 1;
+    let none = n as u8;
+    let mut chain = Chain {
+        first: [none; NODES],
+        next: [none; MOST_IN_TABLE],
+    };
+    for i in (0..n).rev() {
         let a = arcs::arc_at(table, i);
         let node = end_of(a, end) as usize;
-        let behind = NODES + i;
-        chain[behind] = chain[node];
-        chain[node] = i as u8;
+        let behind = chain.first[node];
+        chain.next[i] = behind;
+        chain.first[node] = i as u8;
     }
     chain
 }

@@ -3,77 +3,66 @@
 
 ghost use Rattle.std.specs.Prelude.{◌≡◌};
 ghost use Rattle.problem.specs.Reply.{first_number, request_checks, plain_checks, refusal};
+ghost use Rattle.problem.specs.Refusals.{told};
 
 use problem::{
-    ARC_BYTES, CLOSED_SIZE, MOST_ALLOWANCE, MOST_REACH, MOST_TABLE_BYTES, REPLY_SIZE, Request,
+    ARC_BYTES, CLOSED_SIZE, MOST_ALLOWANCE, MOST_REACH, MOST_TABLE_BYTES, REPLY_SIZE, Refusal,
+    Request,
 };
 
 const LAST_NODE: u32 = problem::LAST_NODE as u32;
 
-// The first of the checks that look at the request alone that applies; 0 for none.
-fn request_refusal(q: Request) -> u32
-    ensures { result ≡ first_number (request_checks q) }
+// The checks that look at the request alone.
+#[tactic(auto, using(laws::proofs::Picks::picks), unfolding(problem::specs::Reply::first_number, problem::specs::Reply::request_checks))]
+fn check_request(q: Request) -> Result<(), Refusal>
+    ensures { told result ≡ first_number (request_checks q) }
 {
-    if LAST_NODE < q.source {
-        return 5;
-    }
-    if LAST_NODE < q.terminal {
-        return 5;
+    if LAST_NODE < q.source || LAST_NODE < q.terminal {
+        return Err(Refusal::NodeTooHigh);
     }
     if q.source == q.terminal {
-        return 6;
+        return Err(Refusal::EndsEqual);
     }
     if MOST_REACH < q.reach {
-        return 7;
+        return Err(Refusal::ReachTooFar);
     }
-    if q.allowance == 0 {
-        return 8;
+    if q.allowance == 0 || MOST_ALLOWANCE < q.allowance {
+        return Err(Refusal::BadAllowance);
     }
-    if MOST_ALLOWANCE < q.allowance {
-        return 8;
-    }
-    0
+    Ok(())
 }
 
-// The first of the checks of a call that brings no closed set that applies, or 0 for none; `size` is the reply buffer's.
-pub fn refusal(table: &[u8], size: usize, q: Request) -> u32
-    ensures { result ≡ first_number (plain_checks table.now q size) }
+// The checks of a call that brings no closed set; `size` is the reply buffer's.
+#[tactic(auto, using(laws::proofs::Picks::picks), unfolding(problem::specs::Reply::first_number, problem::specs::Reply::size_checks))]
+pub fn check(table: &[u8], size: usize, q: Request) -> Result<(), Refusal>
+    ensures { told result ≡ first_number (plain_checks table.now q size) }
 {
     if MOST_TABLE_BYTES < table.len() {
-        return 2;
+        return Err(Refusal::TableTooLong);
     }
     if table.len() % ARC_BYTES != 0 {
-        return 3;
+        return Err(Refusal::TableTorn);
     }
     if size < REPLY_SIZE {
-        return 4;
+        return Err(Refusal::ReplyTooShort);
     }
-    let of_request = request_refusal(q);
-    if of_request != 0 {
-        return of_request;
-    }
-    let of_arcs = arcs::refusal(table);
-    if of_arcs != 0 {
-        return of_arcs;
-    }
-    arcs::blank_refusal(table)
+    check_request(q)?;
+    arcs::check_faults(table)?;
+    arcs::check_blanks(table)
 }
 
-// The same of a call that brings a closed set: that is looked at where none of the others applies.
-pub fn refusal_around(table: &[u8], closed: &[u8], size: usize, q: Request) -> u32
-    ensures { result ≡ refusal table.now closed.now q size }
+// The checks of a call that brings a closed set: that is looked at where none of the others refuses.
+pub fn check_around(table: &[u8], closed: &[u8], size: usize, q: Request) -> Result<(), Refusal>
+    ensures { told result ≡ refusal table.now closed.now q size }
 {
-    let n = refusal(table, size, q);
-    if n != 0 {
-        return n;
-    }
+    check(table, size, q)?;
     if closed.len() != CLOSED_SIZE {
-        return 16;
+        return Err(Refusal::BadClosedSet);
     }
     let set = closed::read(closed);
     let arcs = table.len() / ARC_BYTES;
     if !closed::inside(set, arcs as u8) {
-        return 16;
+        return Err(Refusal::BadClosedSet);
     }
-    0
+    Ok(())
 }

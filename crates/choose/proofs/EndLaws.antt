@@ -1,6 +1,6 @@
 -- What a run's end says of the reply: its verdict and what is ranked; and counting below a length. Assumes nothing.
 use mathlib.Core.Path.{◌≡◌, refl, sym, ap, ◌∙◌, subst}
-use mathlib.Core.Bool.{Bool, true, false, not, true≢false}
+use mathlib.Core.Bool.{Bool, true, false, not}
 use mathlib.Core.List.{List}
 use Prim.Native.Nat.{ℕ, suc, ◌+◌, ◌-◌, ◌/◌, ◌≤◌, ◌<◌, max}
 use native.Mathlib.Omega.{arith}
@@ -12,9 +12,14 @@ use Rattle.laws.specs.Choosing.{keep}
 use Rattle.laws.proofs.FoldLaws.{keep_same}
 use Rattle.laws.proofs.ListLaws.{keep_none, get_or_mem}
 use Rattle.laws.proofs.SortLaws.{Strict}
+use Rattle.problem.specs.declared.Refusal.{Refusal}
+use Rattle.problem.specs.declared.Refusal.TheVariants.{NoPair, NoPairYet}
+use Rattle.problem.specs.declared.Verdict.{Verdict}
+use Rattle.problem.specs.declared.Verdict.TheVariants.{Settled, Stopped}
 use Rattle.problem.specs.Table.{most_allowance}
 use Rattle.problem.specs.Routes.{Mesh, Route, precedes, within, ranking, count, shorter}
 use Rattle.problem.specs.Pairs.{Pair, pairs_of, no_route, Step, total, candidates, some_at, best, settled_by_length, least_settled, ranked, verdict}
+use Rattle.problem.specs.Refusals.{refusal_number, verdict_number}
 use Rattle.problem.proofs.RankingLaws.{ranking_strict}
 use Rattle.problem.proofs.CandidateLaws.{Even, best_in, best_main, some_more}
 use Rattle.problem.proofs.ApartLaws.{judges_even}
@@ -23,7 +28,8 @@ use Rattle.problem.proofs.SettleLaws.{by_length, settled_by}
 use Rattle.problem.proofs.WindowLaws.{half, main_half, J_le, not_yet, last_only, counted, counted_shorter, counted_best}
 use Rattle.keys.specs.Keys.{no_key}
 use Rattle.keys.proofs.ChoiceLaws.{pair_fits, key_of_below}
-use Rattle.net.specs.Net.{mesh_in, routes_in, apart_only, judged_in, Net}
+use Rattle.net.specs.declared.Net.{Net}
+use Rattle.net.specs.Net.{mesh_in, routes_in, judged_in, IsNet}
 use Rattle.bars.proofs.BarsLaws.{net_regular}
 use Rattle.tally.specs.declared.Tally.{Tally}
 use Rattle.track.specs.Track.{route_in, Fit}
@@ -35,12 +41,12 @@ use Rattle.plan.specs.declared.Run.TheVariants.{ByLength, AllRanked, AtAllowance
 use Rattle.plan.specs.Plan.{AtStep, Ended}
 use Rattle.plan.proofs.PlanLaws.{in_reach}
 use Rattle.choose.specs.declared.Pairing.{Pairing}
-use Rattle.choose.specs.Choose.{no_pair, Chosen, OfStep, BestOf, AsRanked, step_by, Halved}
+use Rattle.choose.specs.Choose.{PairChosen, no_pair, OfStep, BestOf, AsRanked, step_by, Halved}
 use Rattle.choose.proofs.RouteChoice.{within_reach}
 
 -- ---- a run's end
 
-module _ (net : List ℕ) (words : Net net) (allowance : ℕ) (few : allowance ≤ most_allowance) where
+module _ (net : Net) (words : IsNet net) (allowance : ℕ) (few : allowance ≤ most_allowance) where
   abbrev routes : List Route
   routes = routes_in net
 
@@ -51,7 +57,7 @@ module _ (net : List ℕ) (words : Net net) (allowance : ℕ) (few : allowance �
   strict = ranking_strict (mesh_in net)
 
   even : Even ok
-  even = judges_even (mesh_in net) (apart_only net)
+  even = judges_even (mesh_in net) net.apart
 
   module _ {t : Tally} {j : ℕ} (e : AtStep net allowance j t) where
     the_step : Step routes j
@@ -74,18 +80,18 @@ module _ (net : List ℕ) (words : Net net) (allowance : ℕ) (few : allowance �
         let b = best_in ok routes j f in
         absurd (omega (arith, z, (of_step f).is, key_of_below (best ok routes j) (pair_fits routes (in_reach net words) (best_main ok routes j f) b.standby_in_lem)))
 
-    as_step : ranked ok routes allowance ≡ j → some_at ok routes allowance ≡ some_at ok routes j → {word number : ℕ} → verdict ok routes allowance ≡ word → no_pair routes allowance ≡ number
-        → AsRanked ok routes allowance t word number
-    as_step r s v n =
+    as_step : ranked ok routes allowance ≡ j → some_at ok routes allowance ≡ some_at ok routes j → {v : Verdict} {r : Refusal} → verdict ok routes allowance ≡ verdict_number v
+        → no_pair routes allowance ≡ refusal_number r → AsRanked ok routes allowance t v r
+    as_step r s said number =
         record {
           of_step = λ ne. subst (OfStep ok routes t.best) (sym e.tally_is.ranked_is) (of_step (some_key (some_at ok routes j) refl ne));
           none = λ z. s ∙ none_key (some_at ok routes j) refl z;
           ranked_is = e.tally_is.ranked_is ∙ sym r;
-          verdict_is = sym v;
-          number_is = sym n;
+          verdict_is = sym said;
+          number_is = sym number;
         }
 
-  pub all_settled : {t : Tally} → Ended net allowance (AllRanked t) → AsRanked ok routes allowance t 0 14
+  pub all_settled : {t : Tally} → Ended net allowance (AllRanked t) → AsRanked ok routes allowance t Settled NoPair
   unfolding ranked some_at candidates
   all_settled (Ended.all_ranked j e end unmet) =
       let last = last_only ok routes strict (omega (arith, e.some)) (subst (λ (i : ℕ). settled_by_length ok routes i ≡ false) end unmet) in
@@ -95,7 +101,7 @@ module _ (net : List ℕ) (words : Net net) (allowance : ℕ) (few : allowance �
       some_whole : length routes ≤ allowance → {i : ℕ} → i ≡ length routes → some_at ok routes allowance ≡ some_at ok routes i
       some_whole h {i} q = ap (λ (mains : List Route). not (eqb (length (keep ok (pairs_of mains routes))) 0)) (take_all allowance routes h ∙ sym (take_all i routes (omega arith)))
 
-  pub end_stopped : {t : Tally} → Ended net allowance (AtAllowance t) → AsRanked ok routes allowance t 1 15
+  pub end_stopped : {t : Tally} → Ended net allowance (AtAllowance t) → AsRanked ok routes allowance t Stopped NoPairYet
   unfolding ranked
   end_stopped (Ended.at_allowance j e end more unmet) =
       let later = not_yet ok routes strict (the_step e) unmet more in
@@ -152,7 +158,7 @@ module _ (net : List ℕ) (words : Net net) (allowance : ℕ) (few : allowance �
         ∙ ap (λ (z : ℕ). suc (max (count (shorter main) routes + p.passed) z)) half_count
 
     last_near : (get_or routes (j - 1) no_route).metres ≤ (mesh_in net).reach
-    last_near = within_reach (apart_only net) (mesh_in net) (net_regular net words) words.reach_range (get_or_mem no_route routes (j - 1) (omega (arith, e.some, e.tally_is.to_N)))
+    last_near = within_reach net.apart (mesh_in net) (net_regular net words) words.reach_range (get_or_mem no_route routes (j - 1) (omega (arith, e.some, e.tally_is.to_N)))
 
     pub halved : Halved net allowance main whole p.passed
     halved =
@@ -191,17 +197,19 @@ module _ (net : List ℕ) (words : Net net) (allowance : ℕ) (few : allowance �
     step_small n = omega (arith, n, step_is, settled_within, e.allowed)
 
     pub chosen_settled : {step : ℕ} → step ≡ step_by routes main whole p.passed → Fit p.main → Fit p.standby
-        → Chosen ok routes allowance (record { verdict = 0; ranked = step; main = p.main; standby = p.standby })
+        → PairChosen ok routes allowance (record { verdict = Settled; ranked = step; main = p.main; standby = p.standby })
     chosen_settled n f g =
         record {
+          some = some_more ok routes e.allowed (by_length ok routes met).some;
+          verdict_is = sym (verdict_settled ok routes allowance (omega (arith, settled_within, e.allowed)));
+          ranked_is = n ∙ step_counted;
+          pair_is = b.pair_is ∙ settled_best;
           main_fit = f;
           standby_fit = g;
-          some = λ q. record { verdict_is = sym (verdict_settled ok routes allowance (omega (arith, settled_within, e.allowed))); ranked_is = n ∙ step_counted; pair_is = b.pair_is ∙ settled_best };
-          none = λ q. absurd (true≢false (sym (some_more ok routes e.allowed (by_length ok routes met).some) ∙ q));
         }
 
 -- where the step replied has a pair, there is one within the allowance
-pub some_allowed : {ok : Pair → Bool} {routes : List Route} {allowance word number key : ℕ} {t : Tally} → AsRanked ok routes allowance t word number → OfStep ok routes key t.ranked → some_at ok routes allowance ≡ true
+pub some_allowed : {ok : Pair → Bool} {routes : List Route} {allowance key : ℕ} {t : Tally} {v : Verdict} {w : Refusal} → AsRanked ok routes allowance t v w → OfStep ok routes key t.ranked → some_at ok routes allowance ≡ true
 unfolding ranked
 some_allowed {ok} {routes} {allowance} r o = some_more ok routes (omega (arith, r.ranked_is)) o.some
 

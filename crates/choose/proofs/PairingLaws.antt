@@ -1,14 +1,14 @@
 -- What is looked for by a key's numbers, and that what is found is the best pair of every step that has the key. Assumes nothing.
-use mathlib.Core.Path.{◌≡◌, sym, ap, ap₂, ◌∙◌, subst}
-use mathlib.Core.Bool.{Bool, true, false, true≢false}
+use mathlib.Core.Path.{◌≡◌, refl, sym, ap, ap₂, ◌∙◌, subst}
+use mathlib.Core.Bool.{Bool}
 use Prim.Native.Nat.{ℕ, ◌+◌, ◌≤◌, ◌<◌}
 use native.Mathlib.Omega.{arith}
 use lib.ListN.{length, get_or}
 use borrow.Author.Tests.{eqb-true}
 use Rattle.laws.specs.Choosing.{keep}
+use Rattle.std.specs.Prelude.{Result, Ok, IsOk}
 use Rattle.problem.specs.declared.Exposure.{Exposure}
 use Rattle.problem.specs.Table.{most_reach}
-use Rattle.problem.specs.Exposures.{to_nothing}
 use Rattle.problem.specs.Routes.{Mesh, Route, route_of, ranking, count, shorter}
 use Rattle.problem.specs.Pairs.{Pair, pair, no_route, shared_count, best}
 use Rattle.problem.specs.Apart.{judges}
@@ -22,9 +22,10 @@ use Rattle.standby.specs.Ahead.{quest, NoneBelow}
 use Rattle.standby.proofs.LeastLaws.{least_below}
 use Rattle.mains.proofs.TallyLaws.{end_exposure}
 use Rattle.track.specs.Track.{route_in, pair_in}
+use Rattle.find.specs.declared.Role.TheVariants.{Main, Standby}
 use Rattle.find.specs.declared.Want.{Want}
 use Rattle.find.specs.declared.Found.{Found}
-use Rattle.find.specs.Find.{is_wanted, First, count_of, sought_in, InRange, Sure, Outcome, OutcomeOverAll}
+use Rattle.find.specs.Find.{is_wanted, First, count_of, InRange, Sure, Outcome, OutcomeOverAll}
 use Rattle.choose.specs.declared.Numbers.{Numbers}
 use Rattle.choose.specs.Choose.{Readable, ReadOff, OfStep, BestOf}
 use Rattle.choose.proofs.RouteChoice.{as_long, within_reach, standby_in_lem, x_range, y_range, n_range, best_key, wanted_as_main, wanted_as_standby, main_somewhere, standby_somewhere, best_is_pair, place, main_place, main_early}
@@ -50,12 +51,16 @@ step_readable only m regular near {key} {j} o =
       is = best_key only m regular near o;
     }
 
+-- of a main nothing need be sure
+pub sure_main : (m : Mesh) (metres key : ℕ) → Sure m (record { metres = metres; key = key; role = Main nothing_barred })
+sure_main m metres key = record { in_reach = λ z. absurd z; least = λ main off z. cc }
+
 module _ {key : ℕ} (n : Numbers) (read : ReadOff key n) where
-  abbrev pub want_main : Exposure → Barred → Want
-  want_main e off = record { metres = n.main; key = n.key; main = e; off = off; as_main = true }
+  abbrev pub want_main : Want
+  want_main = record { metres = n.main; key = n.key; role = Main nothing_barred }
 
   abbrev pub want_standby : Exposure → Barred → Want
-  want_standby e off = record { metres = n.standby; key = n.key; main = e; off = off; as_main = false }
+  want_standby e off = record { metres = n.standby; key = n.key; role = Standby e off }
 
   -- ---- what is looked for is no longer and no larger than anything that is found
 
@@ -72,15 +77,11 @@ module _ {key : ℕ} (n : Numbers) (read : ReadOff key n) where
     key_small : n.key < no_standby
     key_small = standby_below (record { shared = _; metres = _; shared_range = r.shared_range; metres_range = r.standby_range; is = key_read })
 
-    pub main_in_range : (e : Exposure) (off : Barred) → InRange (want_main e off)
-    main_in_range e off = record { metres_range = omega (arith, main_read, r.main_range); key_range = key_small }
+    pub main_in_range : InRange want_main
+    main_in_range = record { metres_range = omega (arith, main_read, r.main_range); key_range = key_small }
 
     pub standby_in_range : (e : Exposure) (off : Barred) → InRange (want_standby e off)
     standby_in_range e off = record { metres_range = omega (arith, standby_read, r.standby_range); key_range = key_small }
-
-  -- of a main nothing need be sure
-  pub sure_main : (m : Mesh) (e : Exposure) (off : Barred) → Sure m (want_main e off)
-  sure_main m e off = record { in_reach = λ z. absurd (true≢false z); least = λ z. absurd (true≢false z) }
 
   -- ---- what is found
 
@@ -91,46 +92,63 @@ module _ {key : ℕ} (n : Numbers) (read : ReadOff key n) where
     abbrev readable : Readable key
     readable = step_readable only m regular near o
 
-    same_main : {e : Exposure} {off : Barred} → e ≡ to_nothing → off ≡ nothing_barred → want_main e off ≡ wanted_as_main only m regular near o
+    same_main : want_main ≡ wanted_as_main only m regular near o
     unfolding step_readable
-    same_main {e} {off} none free = wants (main_read readable) (key_read readable) none free
-      where
-        wants : {x x' y y' : ℕ} {e e' : Exposure} {f f' : Barred} → x ≡ x' → y ≡ y' → e ≡ e' → f ≡ f'
-            → ◌≡◌ {A = Want} (record { metres = x; key = y; main = e; off = f; as_main = true }) (record { metres = x'; key = y'; main = e'; off = f'; as_main = true })
-        wants p q r s = cc
+    same_main = ap₂ (λ (x y : ℕ). record { metres = x; key = y; role = Main nothing_barred }) (main_read readable) (key_read readable)
 
-    module _ {e : Exposure} {off : Barred} (none : e ≡ to_nothing) (free : off ≡ nothing_barred) (u : Found) (of_main : OutcomeOverAll only m (want_main e off) (sought_in u)) where
-      -- the main was found
-      record MainFound : Type 0 where
+    module _ {result : Result Found ℕ} (of_main : OutcomeOverAll only m want_main result) where
+      outcome_main : OutcomeOverAll only m (wanted_as_main only m regular near o) result
+      outcome_main = subst (λ (w : Want). OutcomeOverAll only m w result) same_main of_main
+
+      -- the main is found
+      pub main_some : IsOk result
+      main_some = go outcome_main
+        where
+          go : {r : Result Found ℕ} → OutcomeOverAll only m (wanted_as_main only m regular near o) r → IsOk r
+          go (Outcome.first f u p r) = refl
+          go (Outcome.nowhere no_main p q) = absurd (main_somewhere only m regular near o no_main)
+
+      record MainFound (u : Found) : Type 0 where
         first : First only m (wanted_as_main only m regular near o) (unbarred m nothing_barred)
         passed_is : u.passed ≡ count_of m.arcs b.main.metres first.before
         route_is : route_in u.track ≡ route_of m.arcs first.ks
 
-      main_found : MainFound
-      main_found = go (subst (λ (w : Want). OutcomeOverAll only m w (sought_in u)) (same_main none free) of_main)
+      main_found : (u : Found) → result ≡ Ok u → MainFound u
+      main_found u is = go is outcome_main
         where
-          go : OutcomeOverAll only m (wanted_as_main only m regular near o) (sought_in u) → MainFound
-          go (Outcome.first f a p r) = record { first = f; passed_is = p; route_is = r }
-          go (Outcome.nowhere no_main a p r) = absurd (main_somewhere only m regular near o no_main)
+          go : {r : Result Found ℕ} → r ≡ Ok u → OutcomeOverAll only m (wanted_as_main only m regular near o) r → MainFound u
+          go e (Outcome.first f v p r) =
+              let same : v ≡ u = cc in
+              record { first = f; passed_is = ap (λ (x : Found). x.passed) (sym same) ∙ p; route_is = ap (λ (x : Found). route_in x.track) (sym same) ∙ r }
+          go e (Outcome.nowhere no_main p q) = absurd (main_somewhere only m regular near o no_main)
+
+    module _ {result : Result Found ℕ} (of_main : OutcomeOverAll only m want_main result) (u : Found) (is : result ≡ Ok u) where
+      found : MainFound of_main u
+      found = main_found of_main u is
 
       abbrev f : First only m (wanted_as_main only m regular near o) (unbarred m nothing_barred)
-      f = main_found.first
+      f = found.first
 
       -- with what the main bars
       module _ {barred : Barred} (bars : barred ≡ barred_by_list only m (route_in u.track).arcs) where
         same_standby : want_standby u.track.exposure barred ≡ wanted_as_standby only m regular near o f
         unfolding route_in route_of step_readable
         same_standby =
-            wants (standby_read readable) (key_read readable) (ap (λ (r : Route). r.exposure) main_found.route_is) (bars ∙ ap (λ (r : Route). barred_by_list only m r.arcs) main_found.route_is)
+            wants (standby_read readable) (key_read readable) (ap (λ (r : Route). r.exposure) found.route_is) (bars ∙ ap (λ (r : Route). barred_by_list only m r.arcs) found.route_is)
           where
             wants : {x x' y y' : ℕ} {e e' : Exposure} {f f' : Barred} → x ≡ x' → y ≡ y' → e ≡ e' → f ≡ f'
-                → ◌≡◌ {A = Want} (record { metres = x; key = y; main = e; off = f; as_main = false }) (record { metres = x'; key = y'; main = e'; off = f'; as_main = false })
+                → ◌≡◌ {A = Want} (record { metres = x; key = y; role = Standby e f }) (record { metres = x'; key = y'; role = Standby e' f' })
             wants p q r s = cc
 
         -- the main passed its test: no standby of it that keeps off what it bars, and no way, has a smaller key
         sure_standby : Sure m (wanted_as_standby only m regular near o f)
         unfolding is_wanted
-        sure_standby = record { in_reach = λ z. within_reach only m regular near (standby_in_lem only m regular near o); least = λ z. least_here }
+        sure_standby = record {
+          in_reach = λ z. within_reach only m regular near (standby_in_lem only m regular near o);
+          least = λ main off z.
+              let same : ◌≡◌ {A = Exposure × Barred} ((route_of m.arcs f.ks).exposure, barred_by_list only m f.ks) (main, off) = cc in
+              subst (λ (r : Exposure × Barred). NoneBelow (quest m r.0 r.1) best_standby_key) same least_here;
+        }
           where
             best_standby_key : ℕ
             best_standby_key = standby_key (shared_count b) b.standby.metres
@@ -140,30 +158,44 @@ module _ {key : ℕ} (n : Numbers) (read : ReadOff key n) where
                 subst (λ (e : Exposure). NoneBelow (quest m e (barred_by_list only m f.ks)) best_standby_key) (end_exposure m nothing_barred f.ks)
                 (least_below m regular.heads regular.ends_differ _ (barred_by_list only m f.ks) (best_standby_key + 1) (eqb-true _ best_standby_key f.passes))
 
-        module _ (s : Found) (of_standby : Sure m (want_standby u.track.exposure barred) → OutcomeOverAll only m (want_standby u.track.exposure barred) (sought_in s)) where
-          -- the two routes are the best pair
-          pair_found : pair_in u.track s.track ≡ b
-          pair_found = go (subst (λ (w : Want). OutcomeOverAll only m w (sought_in s)) same_standby (of_standby (subst (λ (w : Want). Sure m w) (sym same_standby) sure_standby)))
+        -- and the standby is found
+        module _ {result' : Result Found ℕ} (of_standby : Sure m (want_standby u.track.exposure barred) → OutcomeOverAll only m (want_standby u.track.exposure barred) result') where
+          outcome_standby : OutcomeOverAll only m (wanted_as_standby only m regular near o f) result'
+          outcome_standby = subst (λ (w : Want). OutcomeOverAll only m w result') same_standby (of_standby (subst (λ (w : Want). Sure m w) (sym same_standby) sure_standby))
+
+          pub standby_some : IsOk result'
+          standby_some = go outcome_standby
             where
-              go : OutcomeOverAll only m (wanted_as_standby only m regular near o f) (sought_in s) → pair_in u.track s.track ≡ b
-              go (Outcome.first g a p r) = ap₂ (λ (x y : Route). pair x y) main_found.route_is r ∙ sym (best_is_pair only m regular near o f g)
-              go (Outcome.nowhere none_passes a p r) = absurd (standby_somewhere only m regular near o f none_passes)
+              go : {r : Result Found ℕ} → OutcomeOverAll only m (wanted_as_standby only m regular near o f) r → IsOk r
+              go (Outcome.first g s p r) = refl
+              go (Outcome.nowhere none_passes p q) = absurd (standby_somewhere only m regular near o f none_passes)
 
-          -- the main's place, within what is counted
-          passed_all : u.passed ≡ length (keep (as_long m.arcs b.main.metres) f.before)
-          passed_all = omega (arith, main_found.passed_is, main_early only m regular near o f, o.few)
+          module _ (s : Found) (standby_is : result' ≡ Ok s) where
+            -- the two routes are the best pair
+            pair_found : pair_in u.track s.track ≡ b
+            pair_found = go standby_is outcome_standby
+              where
+                go : {r : Result Found ℕ} → r ≡ Ok s → OutcomeOverAll only m (wanted_as_standby only m regular near o f) r → pair_in u.track s.track ≡ b
+                go e (Outcome.first g v p r) =
+                    let same : v ≡ s = cc in
+                    ap₂ (λ (x y : Route). pair x y) found.route_is (ap (λ (x : Found). route_in x.track) (sym same) ∙ r) ∙ sym (best_is_pair only m regular near o f g)
+                go e (Outcome.nowhere none_passes p q) = absurd (standby_somewhere only m regular near o f none_passes)
 
-          metres_is : u.track.metres ≡ b.main.metres
-          unfolding route_in
-          metres_is = ap (λ (p : Pair). p.main.metres) pair_found
+            -- the main's place, within what is counted
+            passed_all : u.passed ≡ length (keep (as_long m.arcs b.main.metres) f.before)
+            passed_all = omega (arith, found.passed_is, main_early only m regular near o f, o.few)
 
-          place_is : count (shorter u.track.metres) (ranking m) + u.passed ≡ place only m regular near o f
-          place_is = ap₂ ◌+◌ (ap (λ (x : ℕ). count (shorter x) (ranking m)) metres_is) passed_all
+            metres_is : u.track.metres ≡ b.main.metres
+            unfolding route_in
+            metres_is = ap (λ (p : Pair). p.main.metres) pair_found
 
-          pub best_found : BestOf (judges m only) (ranking m) j (record { main = u.track; standby = s.track; passed = u.passed })
-          best_found =
-              record {
-                pair_is = pair_found;
-                place_is = ap (λ (k : ℕ). get_or (ranking m) k no_route) place_is ∙ main_place only m regular near o f ∙ sym main_found.route_is;
-                early = omega (arith, place_is, main_early only m regular near o f);
-              }
+            place_is : count (shorter u.track.metres) (ranking m) + u.passed ≡ place only m regular near o f
+            place_is = ap₂ ◌+◌ (ap (λ (x : ℕ). count (shorter x) (ranking m)) metres_is) passed_all
+
+            pub best_found : BestOf (judges m only) (ranking m) j (record { main = u.track; standby = s.track; passed = u.passed })
+            best_found =
+                record {
+                  pair_is = pair_found;
+                  place_is = ap (λ (k : ℕ). get_or (ranking m) k no_route) place_is ∙ main_place only m regular near o f ∙ sym found.route_is;
+                  early = omega (arith, place_is, main_early only m regular near o f);
+                }

@@ -21,7 +21,7 @@ use Rattle.laws.proofs.SortLaws.{place_unique}
 use Rattle.laws.proofs.SetLaws.{digit}
 use Rattle.problem.specs.declared.Arc.{Arc}
 use Rattle.problem.specs.Table.{hazards, most_reach}
-use Rattle.problem.specs.Exposures.{to_nothing, sharing}
+use Rattle.problem.specs.Exposures.{sharing}
 use Rattle.problem.specs.Routes.{Mesh, IsPath, paths, Route, route_of, routes_from, metres_of, within, precedes, ranking, count, shorter}
 use Rattle.problem.specs.Pairs.{Pair, pair, no_route, shared_count, total, some_at, best}
 use Rattle.problem.specs.Apart.{judges}
@@ -44,6 +44,7 @@ use Rattle.mains.specs.Mains.{best_with}
 use Rattle.mains.proofs.TryLaws.{Beside, beside_all, beside_made}
 use Rattle.mains.proofs.TallyLaws.{end_of, end_exposure, listed_made, listed_path, listed_metres, better, KeyWith, best_with_lem}
 use Rattle.sweep.proofs.WindowMains.{between, between_by, window_in_order}
+use Rattle.find.specs.declared.Role.TheVariants.{Main, Standby}
 use Rattle.find.specs.declared.Want.{Want}
 use Rattle.find.specs.Find.{is_wanted, passes_by, NonePasses, First}
 use Rattle.choose.specs.Choose.{OfStep}
@@ -138,7 +139,7 @@ module _ (only : Bool) (m : Mesh) (regular : Regular m) (near : m.reach ≤ most
     key = standby_key n y
 
     abbrev pub wanted_as_main : Want
-    wanted_as_main = record { metres = x; key = key; main = to_nothing; off = nothing_barred; as_main = true }
+    wanted_as_main = record { metres = x; key = key; role = Main nothing_barred }
 
     -- ---- the test of a main: its best pair has the best pair's key
 
@@ -314,7 +315,7 @@ module _ (only : Bool) (m : Mesh) (regular : Regular m) (near : m.reach ≤ most
       off_main = barred_by_list only m f.ks
 
       abbrev pub wanted_as_standby : Want
-      wanted_as_standby = record { metres = y; key = key; main = main.exposure; off = off_main; as_main = false }
+      wanted_as_standby = record { metres = y; key = key; role = Standby main.exposure off_main }
 
       made : (r : Route) → r.metres ≡ y → key_of (pair main r) ≡ pair_key (shared_count (pair main r)) (x + y) x
       unfolding key_of total

@@ -1,12 +1,12 @@
--- A closed set in two words, and closed arcs turned round. Assumes nothing.
-use Rattle.std.specs.Prelude.{ℕ, ◌+◌, ◌*◌, ◌^◌, List, set}
+-- A closed set as the code holds it, and closed arcs turned round. Assumes nothing.
+use Rattle.std.specs.Prelude.{ℕ, ◌+◌, ◌*◌, List, set}
 use Rattle.problem.specs.declared.Arc.{Arc}
 use Rattle.problem.specs.Closed.{closed_by}
 use Rattle.closed.specs.declared.Closed.{Closed}
 
--- the set as one number
-unfoldable pub set_of : Closed → ℕ
-set_of c = c.low + 2 ^ 64 * c.high
+-- the set as a number
+abbrev pub set_of : Closed → ℕ
+set_of c = c.arcs
 
 -- a table whose arc k leads from `tail` to `head`
 abbrev pub turned_at : List ℕ → (k tail head : ℕ) → List ℕ

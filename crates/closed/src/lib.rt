@@ -6,13 +6,15 @@ ghost use Rattle.problem.specs.Table.{last_node, most_in_table, most_table_bytes
 ghost use Rattle.problem.specs.Closed.{closed_size, closed_in, is_open};
 ghost use Rattle.closed.specs.Turned.{set_of, turned_at, turned_in};
 
-use problem::{ARC_BYTES, Request};
+use problem::{ARC_BYTES, MOST_IN_TABLE, Request};
 
-// The arcs that are closed: the first 64 have their bits in one word, the others in another.
+// All arcs of the largest table: how many bits a closed set has.
+const ALL_ARCS: u8 = MOST_IN_TABLE as u8;
+
+// The arcs that are closed: bit k is arc k's.
 #[derive(Clone, Copy)]
 pub struct Closed {
-    pub low: u64,
-    pub high: u64,
+    pub arcs: u128,
 }
 
 // The set that sixteen bytes say.
@@ -20,9 +22,10 @@ pub fn read(bytes: &[u8]) -> Closed
     requires { length bytes.now ≡ closed_size }
     ensures { set_of result ≡ closed_in bytes.now }
 {
+    let low = u128::from(octets::number8(bytes, 0));
+    let high = u128::from(octets::number8(bytes, 8));
     Closed {
-        low: octets::number8(bytes, 0),
-        high: octets::number8(bytes, 8),
+        arcs: low + (high << 64),
     }
 }
 
@@ -30,10 +33,7 @@ pub fn read(bytes: &[u8]) -> Closed
 pub fn any(set: Closed) -> bool
     ensures { result ≡ not (eqb (set_of set) 0) }
 {
-    if set.low != 0 {
-        return true;
-    }
-    set.high != 0
+    set.arcs != 0
 }
 
 // Whether it closes arc k.
@@ -41,10 +41,7 @@ fn has(set: Closed, k: u8) -> bool
     requires { k < most_in_table }
     ensures { result ≡ not (is_open (set_of set) k) }
 {
-    if k < 64 {
-        return sets::has(set.low, k);
-    }
-    sets::has(set.high, k - 64)
+    (set.arcs >> k) & 1 == 1
 }
 
 // Whether it closes none but the first n arcs.
@@ -52,16 +49,7 @@ pub fn inside(set: Closed, n: u8) -> bool
     requires { n ≤ most_in_table }
     ensures { result ≡ ltb (set_of set) (2 ^ n) }
 {
-    if n < 64 {
-        if set.high != 0 {
-            return false;
-        }
-        return sets::below(set.low, n);
-    }
-    if n == 128 {
-        return true;
-    }
-    sets::below(set.high, n - 64)
+    n == ALL_ARCS || set.arcs >> n == 0
 }
 
 // Turns arc k round, to lead from `tail` to `head`.
@@ -80,13 +68,9 @@ pub fn turn_all(table: &mut [u8], set: Closed, q: Request)
     requires { (length table.old ≤ most_table_bytes) × (q.source ≤ last_node) × (q.terminal ≤ last_node) }
     ensures { arcs_of table.new ≡ turned_in (set_of set) q.terminal q.source (arcs_of table.old) }
 {
-    let n = table.len() / ARC_BYTES;
-    let mut k: usize = 0;
-    while k < n {
-        let arc = k;
-        k = k + 1;
-        if has(set, arc as u8) {
-            turn(table, arc, q.terminal as u8, q.source as u8);
+    for k in 0..table.len() / ARC_BYTES {
+        if has(set, k as u8) {
+            turn(table, k, q.terminal as u8, q.source as u8);
         }
     }
 }

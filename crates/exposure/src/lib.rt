@@ -15,6 +15,7 @@ use problem::{Arc, Exposure, RISK_WIDTH};
 
 const FIELD_WIDTH: u16 = RISK_WIDTH as u16;
 
+#[tactic(auto, unfolding(problem::specs::Exposures::to_nothing))]
 pub fn nothing() -> Exposure
     ensures { result ≡ to_nothing }
 {
@@ -26,68 +27,54 @@ pub fn nothing() -> Exposure
 }
 
 // To all that there is.
+#[tactic(auto, unfolding(problem::specs::Exposures::to_all))]
 pub fn all() -> Exposure
     ensures { result ≡ to_all }
 {
     Exposure {
-        risks: 18446744073709551615,
-        low: 18446744073709551615,
-        high: 18446744073709551615,
+        risks: u64::MAX,
+        low: u64::MAX,
+        high: u64::MAX,
     }
 }
 
-// The field that says 2 to the power of i: bit i alone.
-fn bit_alone(i: u8) -> u64
-    requires { i < 64 }
-    ensures { result ≡ 2 ^ i }
-{
-    1 << i
-}
-
 // To hazard r alone: its field, and its bit there.
+#[tactic(auto, unfolding(problem::specs::Exposures::to_one, problem::specs::Exposures::to_nothing))]
 pub fn one(r: u8) -> Exposure
     requires { r < hazards }
     ensures { result ≡ to_one r }
 {
-    let alone = bit_alone(r / 3);
-    let field = r % 3;
-    if field == 0 {
-        return Exposure {
+    let alone = sets::only(r / 3);
+    match r % 3 {
+        0 => Exposure {
             risks: alone,
-            low: 0,
-            high: 0,
-        };
-    }
-    if field == 1 {
-        return Exposure {
-            risks: 0,
+            ..nothing()
+        },
+        1 => Exposure {
             low: alone,
-            high: 0,
-        };
-    }
-    Exposure {
-        risks: 0,
-        low: 0,
-        high: alone,
+            ..nothing()
+        },
+        _ => Exposure {
+            high: alone,
+            ..nothing()
+        },
     }
 }
 
 // The field of 64 spans from `first` on that says span s alone; none where s is no such span.
+#[tactic(auto, unfolding(problem::specs::Exposures::span_field))]
 fn span_field(first: u16, s: u16) -> u64
     requires { first ≤ 65 }
     ensures { result ≡ span_field first s }
 {
-    if s < first {
-        return 0;
+    match s.checked_sub(first) {
+        Some(i) if i < FIELD_WIDTH => sets::only(i as u8),
+        _ => 0,
     }
-    let i = s - first;
-    if FIELD_WIDTH <= i {
-        return 0;
-    }
-    bit_alone(i as u8)
 }
 
-// To what an arc is.
+// To what an arc is. No `From`: both types are the problem's, so that it could stand only there.
+#[tactic(auto, unfolding(problem::specs::Exposures::of_arc))]
 pub fn of_arc(a: Arc) -> Exposure
     ensures { result ≡ of_arc a }
 {
@@ -106,35 +93,28 @@ pub fn risks(e: Exposure) -> u64
 }
 
 // One of the three fields.
+#[tactic(auto, unfolding(problem::specs::Exposures::field_of))]
 fn field(e: Exposure, i: u8) -> u64
     ensures { result ≡ field_of e i }
 {
-    if i == 0 {
-        return e.risks;
+    match i {
+        0 => e.risks,
+        1 => e.low,
+        _ => e.high,
     }
-    if i == 1 {
-        return e.low;
-    }
-    e.high
-}
-
-// Whether a field has bit i.
-fn has_bit(field: u64, i: u8) -> bool
-    requires { i < 64 }
-    ensures { result ≡ eqb (bit field i) 1 }
-{
-    (field >> i) & 1 == 1
 }
 
 // Whether it is exposed to hazard r.
+#[tactic(auto, unfolding(problem::specs::Exposures::exposed))]
 pub fn is_exposed(e: Exposure, r: u8) -> bool
     requires { r < hazards }
     ensures { result ≡ eqb (exposed e r) 1 }
 {
-    has_bit(field(e, r % 3), r / 3)
+    sets::has(field(e, r % 3), r / 3)
 }
 
 // To what either is.
+#[tactic(auto, unfolding(problem::specs::Exposures::joined, problem::specs::Exposures::field_of))]
 pub fn joined(a: Exposure, b: Exposure) -> Exposure
     ensures { result ≡ joined a b }
 {
@@ -149,13 +129,11 @@ pub fn joined(a: Exposure, b: Exposure) -> Exposure
 fn is_spanless(e: Exposure) -> bool
     ensures { result ≡ true → (e.low ≡ 0) × (e.high ≡ 0) }
 {
-    if e.low != 0 {
-        return false;
-    }
-    e.high == 0
+    e.low == 0 && e.high == 0
 }
 
 // To what both are.
+#[tactic(auto, using(crate::proofs::WordLaws::common_spanless), unfolding(problem::specs::Exposures::common, problem::specs::Exposures::field_of))]
 pub fn common(a: Exposure, b: Exposure) -> Exposure
     ensures { result ≡ common a b }
 {
@@ -189,15 +167,16 @@ pub fn left_over(left: Exposure, a: Arc, on: Exposure) -> Exposure
 }
 
 // To all of it but hazard r.
+#[tactic(auto, unfolding(crate::specs::Parts::all_but, problem::specs::Exposures::common, problem::specs::Exposures::field_of, laws::specs::Sets::without))]
 pub fn all_but(e: Exposure, r: u8) -> Exposure
     requires { r < hazards }
     ensures { result ≡ all_but e r }
 {
-    let out = common(e, one(r));
+    let out = one(r);
     Exposure {
-        risks: e.risks - out.risks,
-        low: e.low - out.low,
-        high: e.high - out.high,
+        risks: sets::without(e.risks, out.risks),
+        low: sets::without(e.low, out.low),
+        high: sets::without(e.high, out.high),
     }
 }
 
@@ -205,27 +184,30 @@ pub fn all_but(e: Exposure, r: u8) -> Exposure
 fn ones(field: u64) -> u32
     ensures { (result ≡ ones_in 64 field) × (result ≤ 64) }
 {
-    u64::count_ones(field)
+    field.count_ones()
 }
 
 // How many spans that are.
+#[tactic(auto, unfolding(problem::specs::Exposures::spans_in))]
 pub fn spans(e: Exposure) -> u64
     ensures { (result ≡ spans_in e) × (result ≤ most_in_table) }
 {
     if is_spanless(e) {
         return 0;
     }
-    ones(e.low) as u64 + ones(e.high) as u64
+    u64::from(ones(e.low) + ones(e.high))
 }
 
 // How many risks and spans that are.
+#[tactic(auto, unfolding(problem::specs::Exposures::size))]
 pub fn size(e: Exposure) -> u64
     ensures { (result ≡ size e) × (result ≤ hazards) }
 {
-    ones(e.risks) as u64 + spans(e)
+    u64::from(ones(e.risks)) + spans(e)
 }
 
 // How many two have in common: the ones in the common field (01, Routes and their ranking), and the common spans (T-03).
+#[tactic(auto, unfolding(problem::specs::Exposures::sharing))]
 pub fn sharing(a: Exposure, b: Exposure) -> u64
     ensures { (result ≡ sharing a b) × (result ≤ hazards) }
 {
@@ -236,37 +218,27 @@ pub fn sharing(a: Exposure, b: Exposure) -> u64
 pub fn shared_risks(a: u64, b: u64) -> u64
     ensures { (result ≡ ones_in 64 (bit_and a b)) × (result ≤ 64) }
 {
-    ones(a & b) as u64
+    u64::from(ones(a & b))
 }
 
 // Whether two have nothing in common.
+#[tactic(auto, using(problem::proofs::ExposureLaws::common_comm), unfolding(problem::specs::Exposures::disjoint))]
 pub fn is_disjoint(a: Exposure, b: Exposure) -> bool
     ensures { result ≡ disjoint a b }
 {
     let both = common(b, a);
-    if both.risks != 0 {
-        return false;
-    }
-    if both.low != 0 {
-        return false;
-    }
-    both.high == 0
+    both.risks == 0 && both.low == 0 && both.high == 0
 }
 
 // Whether two are exposed to the same.
 pub fn is_same(a: Exposure, b: Exposure) -> bool
     ensures { (result ≡ true) ↔ (a ≡ b) }
 {
-    if a.risks != b.risks {
-        return false;
-    }
-    if a.low != b.low {
-        return false;
-    }
-    a.high == b.high
+    a == b
 }
 
 // Whether it is exposed to nothing.
+#[tactic(auto, using(laws::proofs::SetLaws::or_none), unfolding(problem::specs::Exposures::to_nothing))]
 pub fn is_nothing(e: Exposure) -> bool
     ensures { (result ≡ true) ↔ (e ≡ to_nothing) }
 {
@@ -274,22 +246,18 @@ pub fn is_nothing(e: Exposure) -> bool
 }
 
 // Whether b is exposed to all that a is.
+#[tactic(auto, unfolding(crate::specs::Parts::inside))]
 pub fn is_inside(a: Exposure, b: Exposure) -> bool
     ensures { result ≡ inside a b }
 {
-    if a.risks | b.risks != b.risks {
-        return false;
-    }
-    if a.low | b.low != b.low {
-        return false;
-    }
-    a.high | b.high == b.high
+    a.risks | b.risks == b.risks && a.low | b.low == b.low && a.high | b.high == b.high
 }
 
 // How many words hold an exposure.
 pub const WORDS: usize = 3;
 
 // What the words from a place on say.
+#[tactic(auto, unfolding(crate::specs::Words::exposure_at))]
 pub fn read(words: &[u64], at: usize) -> Exposure
     requires { at + exposure_words ≤ length words.now }
     ensures { result ≡ exposure_at words.now at }
@@ -302,6 +270,7 @@ pub fn read(words: &[u64], at: usize) -> Exposure
 }
 
 // Puts an exposure there.
+#[tactic(auto, unfolding(crate::specs::Words::put_at))]
 pub fn put(words: &mut [u64], at: usize, e: Exposure)
     requires { at + exposure_words ≤ length words.old }
     ensures { words.new ≡ put_at words.old at e }
@@ -312,22 +281,24 @@ pub fn put(words: &mut [u64], at: usize, e: Exposure)
 }
 
 // How many ones a field has, by taking them away one by one: where there are few, that is quicker than to count them all.
+#[tactic(auto, using(laws::proofs::SetLaws::ones_le, laws::proofs::SetLaws::ones_empty))]
 fn few_ones(field: u64) -> u64
     ensures { (result ≡ ones_in 64 field) × (result ≤ 64) }
 {
     let mut left = field;
     let mut count: u64 = 0;
     while left != 0 {
-        left = left & (left - 1);
-        count = count + 1;
+        left &= left - 1;
+        count += 1;
     }
     count
 }
 
 // How many of a main's are met over a field that were not met before.
+#[tactic(auto, using(laws::proofs::SetLaws::ones_new), unfolding(laws::specs::Sets::without))]
 pub fn newly(main: u64, before: u64, own: u64) -> u64
     ensures { (result + ones_in 64 (bit_and main before) ≡ ones_in 64 (bit_and main (bit_or before own))) × (result ≤ 64) }
 {
     let both = main & own;
-    few_ones(both - (both & before))
+    few_ones(sets::without(both, before))
 }

@@ -1,7 +1,7 @@
 pub mod TrailLaws
 pub mod SeekLaws
-pub mod OutcomeLaws
 pub mod PutLaws
 pub mod RunLaws
 pub mod TrackLaws
 pub mod BarredLaws
+pub mod OutcomeLaws

@@ -1,14 +1,14 @@
 -- What a search from the source finds: the first list of the wanted length that passes, and, of mains, how many of that length stand before it. Assumes nothing.
-use Rattle.std.specs.Prelude.{if◌then◌else◌}
+use Rattle.std.specs.Prelude.{Ok, Err}
 use mathlib.Core.Path.{◌≡◌, refl, sym, ap, ap₂, ◌∙◌, subst}
 use mathlib.Core.Logic.{◌⊎◌, inl, inr}
-use mathlib.Core.Bool.{Bool, true, false}
+use mathlib.Core.Bool.{Bool, true, false, true≢false}
 use mathlib.Core.List.Memᴰ
 use mathlib.Core.List.{List, [], ◌∷◌, foldl, foldl-append, Memᴰ}
 use Prim.Native.Nat.{ℕ, ◌+◌, ◌≤◌, ◌<◌, min}
 use native.Mathlib.Nat.{zero-add}
 use native.Mathlib.Omega.{arith}
-use lib.Dec.{eqb, ltb}
+use lib.Dec.{eqb}
 use lib.ListN.{length}
 use borrow.Author.Tests.{eqb-true, eqb-false}
 use Rattle.laws.specs.Choosing.{keep}
@@ -21,19 +21,23 @@ use Rattle.problem.specs.Exposures.{to_nothing}
 use Rattle.problem.specs.Routes.{Mesh, metres_of, exposure_of, Route, route_of}
 use Rattle.problem.specs.Pairs.{no_route}
 use Rattle.problem.proofs.GrowthLaws.{fold_idle}
+use Rattle.net.specs.declared.Net.{Net}
 use Rattle.net.specs.declared.Behind.{Behind}
-use Rattle.net.specs.Net.{word_at, arcs_in, mesh_in, apart_only, Net}
+use Rattle.net.specs.Net.{arcs_in, mesh_in, IsNet}
 use Rattle.net.specs.Search.{behind, along, last_of, no_arc}
 use Rattle.net.proofs.SearchLaws.{along_metres}
-use Rattle.bars.specs.declared.Barred.{Barred}
-use Rattle.bars.specs.Bars.{barred_by, start_barred, unbarred}
-use Rattle.standby.specs.Ahead.{quest, least_of}
+use Rattle.bars.specs.Bars.{start_barred, unbarred}
 use Rattle.track.specs.declared.Track.{Track}
 use Rattle.track.specs.Track.{route_in, Holds}
+use Rattle.bars.specs.declared.Barred.{Barred}
+use Rattle.find.specs.declared.Role.{Role}
+use Rattle.find.specs.declared.Role.TheVariants.{Main, Standby}
 use Rattle.find.specs.declared.Want.{Want}
-use Rattle.find.specs.Find.{is_wanted, InRange, Sure, Sought, sought_in, seek, sought_from, count_of, passes_by, NonePasses, First, passed_in, Outcome, OutcomeOverAll}
-use Rattle.find.specs.Run.{passed_at, count_at, want_in, arcs_found, sought_so_far, Begins, ArcsKnown, Finding, Seeks}
-use Rattle.find.proofs.TrailLaws.{trail_start}
+use Rattle.find.specs.declared.Found.{Found}
+use Rattle.find.specs.declared.Run.{Run}
+use Rattle.find.specs.Find.{IsStandby, barred_for, InRange, Sure, Sought, seek, sought_from, count_of, passes_by, NonePasses, First, passed_in, Outcome, OutcomeOverAll}
+use Rattle.find.specs.Run.{is_found, arcs_found, sought_so_far, Begins, ArcsKnown, Finding, Seeks}
+use Rattle.find.proofs.TrailLaws.{standby_is, trail_start}
 use Rattle.find.proofs.SeekLaws.{meet_found, meet_other, meet_standby, meet_wanted, meet_passed}
 use Rattle.find.proofs.PutLaws.{known_most, none_so_far}
 
@@ -45,7 +49,7 @@ module _ (only : Bool) (m : Mesh) (w : Want) where
 
   -- where the search begins
   abbrev outset : Behind
-  outset = start_barred m w.off
+  outset = start_barred m (barred_for w.role)
 
   abbrev after : Sought → List (List ℕ) → Sought
   after s l = foldl (seek only m w outset) s l
@@ -91,17 +95,17 @@ module _ (only : Bool) (m : Mesh) (w : Want) where
   all_metres ks = along_metres arcs outset ks ∙ zero-add (metres_of arcs ks)
 
   -- where no main passes, those of the wanted length are counted, and nothing else changes
-  fold_mains : (l : List (List ℕ)) (s : Sought) (p : ℕ) → w.as_main ≡ true → s.found ≡ false → s.passed ≤ most_allowance → NonePasses only m w l
+  fold_mains : (l : List (List ℕ)) (s : Sought) (p : ℕ) {off : Barred} → w.role ≡ Main off → s.found ≡ false → s.passed ≤ most_allowance → NonePasses only m w l
       → p ≡ min (s.passed + length (keep as_long l)) most_allowance → after s l ≡ record { found = false; passed = p; route = s.route }
   unfolding keep seek
-  fold_mains [] s p main e b n q = let same : s.passed ≡ p = omega arith in rw (← same, ← e)
-  fold_mains (ks ∷ l) s p main e b n q = go (as_long ks) refl (fold_mains l)
+  fold_mains [] s p {off = off} main e b n q = let same : s.passed ≡ p = omega arith in rw (← same, ← e)
+  fold_mains (ks ∷ l) s p {off = off} main e b n q = go (as_long ks) refl (λ r j m. fold_mains l r j {off = off} m)
     where
       none : NonePasses only m w l
       none js i = n js (Memᴰ.tail i)
 
       go : (c : Bool) → as_long ks ≡ c
-          → ((r : Sought) (j : ℕ) → w.as_main ≡ true → r.found ≡ false → r.passed ≤ most_allowance → NonePasses only m w l
+          → ((r : Sought) (j : ℕ) → w.role ≡ Main off → r.found ≡ false → r.passed ≤ most_allowance → NonePasses only m w l
           → j ≡ min (r.passed + length (keep as_long l)) most_allowance → after r l ≡ record { found = false; passed = j; route = r.route })
           → after s (ks ∷ l) ≡ record { found = false; passed = p; route = s.route }
       go true f ih =
@@ -113,7 +117,7 @@ module _ (only : Bool) (m : Mesh) (w : Want) where
           ∙ ih s p main e b none (rw (f, keep) at q)
 
   -- where no standby passes, nothing changes
-  fold_standbys : (l : List (List ℕ)) (s : Sought) → w.as_main ≡ false → NonePasses only m w l → after s l ≡ s
+  fold_standbys : (l : List (List ℕ)) (s : Sought) → IsStandby w.role → NonePasses only m w l → after s l ≡ s
   unfolding seek
   fold_standbys l s standby n = fold_idle (seek only m w outset) s l (λ ks i. meet_standby only m w s _ _ ks standby (λ e. n ks i (sym (all_metres ks) ∙ e)))
 
@@ -127,90 +131,100 @@ module _ (only : Bool) (m : Mesh) (w : Want) where
   begin = record { found = false; passed = 0; route = no_route }
 
   fold_none : (l : List (List ℕ)) → NonePasses only m w l → after begin l ≡ record { found = false; passed = passed_in only m w l; route = no_route }
-  fold_none l n = go w.as_main refl
+  fold_none l n = go w.role refl
     where
-      go : (b : Bool) → w.as_main ≡ b → after begin l ≡ record { found = false; passed = if b then count_of arcs w.metres l else 0; route = no_route }
-      go true e = fold_mains l begin (count_of arcs w.metres l) e refl (omega arith) n (omega arith)
-      go false e = fold_standbys l begin e n
+      go : (r : Role) → w.role ≡ r → after begin l ≡ record { found = false; passed = passed_in only m w l; route = no_route }
+      go (Main off) e =
+          let all : count_of arcs w.metres l ≡ passed_in only m w l = rw e in
+          fold_mains l begin (passed_in only m w l) e refl (omega arith) n (omega arith)
+      go (Standby main off) e =
+          let idle : 0 ≡ passed_in only m w l = rw e in
+          fold_standbys l begin (standby_is e) n ∙ ap (λ (p : ℕ). record { found = false; passed = p; route = no_route }) idle
 
-  -- a search over all of a list, from the start
-  fold_outcome : (all : List (List ℕ)) → Outcome only m w all (after begin all)
+  -- what a search over all of a list, from the start, comes to
+  data Comes (all : List (List ℕ)) (s : Sought) : Type 0 where
+    first : (f : First only m w all) → s ≡ record { found = true; passed = passed_in only m w f.before; route = route_of arcs f.ks } → Comes all s
+    nowhere : NonePasses only m w all → s ≡ record { found = false; passed = passed_in only m w all; route = no_route } → Comes all s
+
+  fold_comes : (all : List (List ℕ)) → Comes all (after begin all)
   unfolding seek
-  fold_outcome all = go (first_or_none all)
+  fold_comes all = go (first_or_none all)
     where
-      found : (f : First only m w all) → after begin all ≡ record { found = true; passed = passed_in only m w f.before; route = route_of arcs f.ks }
-      found f =
-          ap (after begin) f.place
+      go : First only m w all ⊎ NonePasses only m w all → Comes all (after begin all)
+      go (inl f) =
+          Comes.first f
+          (ap (after begin) f.place
           ∙ foldl-append (seek only m w outset) begin f.before (f.ks ∷ f.after)
           ∙ ap (λ (r : Sought). after r (f.ks ∷ f.after)) (fold_none f.before f.none_before)
           ∙ ap (λ (r : Sought). after r f.after) (meet_wanted only m w _ _ _ f.ks refl (all_metres f.ks ∙ f.length_is) f.passes)
-          ∙ fold_found f.after _ refl
+          ∙ fold_found f.after _ refl)
+      go (inr n) = Comes.nowhere n (fold_none all n)
 
-      go : First only m w all ⊎ NonePasses only m w all → Outcome only m w all (after begin all)
-      go (inl f) = Outcome.first f (ap (λ (r : Sought). r.found) (found f)) (ap (λ (r : Sought). r.passed) (found f)) (ap (λ (r : Sought). r.route) (found f))
-      go (inr n) =
-          let none = fold_none all n in
-          Outcome.nowhere n (ap (λ (r : Sought). r.found) none) (ap (λ (r : Sought). r.passed) none) (ap (λ (r : Sought). r.route) none)
+  -- and what is handed back then
+  outcome_some : (all : List (List ℕ)) {s : Sought} → Comes all s → s.found ≡ true → (u : Found) → u.passed ≡ s.passed → route_in u.track ≡ s.route → Outcome only m w all (Ok u)
+  outcome_some all (Comes.first f e) t u p r = Outcome.first f u (p ∙ ap (λ (x : Sought). x.passed) e) (r ∙ ap (λ (x : Sought). x.route) e)
+  outcome_some all (Comes.nowhere n e) t u p r = absurd (true≢false (sym t ∙ ap (λ (x : Sought). x.found) e))
 
--- ---- the test of a main
-
--- by the least key of the standbys that keep off what it bars
-pub wanted_main : (only : Bool) (m : Mesh) (w : Want) (route : Behind) (last : ℕ) {off : Barred} {least : ℕ} → w.as_main ≡ true → off ≡ barred_by only m route.met last
-    → least ≡ least_of (quest m route.exposure off) (w.key + 1) → eqb least w.key ≡ is_wanted only m w route last
-unfolding is_wanted
-wanted_main only m w route last e o l = rw (e, ← o, is_wanted) (ap (λ (x : ℕ). eqb x w.key) l)
+  outcome_none : (all : List (List ℕ)) {s : Sought} → Comes all s → s.found ≡ false → (p : ℕ) → p ≡ s.passed → Outcome only m w all (Err p)
+  outcome_none all (Comes.first f e) t p q = absurd (true≢false (ap (λ (x : Sought). x.found) (sym e) ∙ t))
+  outcome_none all (Comes.nowhere n e) t p q = Outcome.nowhere n p (q ∙ ap (λ (x : Sought). x.passed) e)
 
 -- ---- from the source
 
-module _ (net : List ℕ) (words : Net net) where
+module _ (net : Net) (words : IsNet net) where
   -- a search that begins at the source, with nothing behind it; what is barred counts as met
-  module _ {w : Want} {run : List ℕ} (begins : Begins w run) {at seen : ℕ} {e : Exposure} (at_source : at ≡ (mesh_in net).source) (seen_source : seen ≡ with w.off.nodes at) (none : e ≡ to_nothing) where
+  module _ {w : Want} {run : Run} (begins : Begins w run) {at seen : ℕ} {e : Exposure} (at_source : at ≡ (mesh_in net).source) (seen_source : seen ≡ with (barred_for w.role).nodes at) (none : e ≡ to_nothing) where
     pub ready_first : InRange w → Finding net run at (behind seen 0 e)
     ready_first range =
         record {
           words = words;
-          under_way = record { size = begins.size; range = rw begins.want range; none_yet = begins.none_yet };
+          under_way = record { range = rw begins.want range; none_yet = begins.none_yet };
           node = omega (arith, words.source_node);
           goes_on = λ x. words.ends_differ (sym at_source ∙ x);
           not_past = omega arith;
-          barred_met = λ u. omega (arith, ap (λ (x : Want). bit x.off.nodes u) begins.want, bit_with w.off.nodes at u, ap (λ (x : ℕ). bit x u) seen_source);
-          came = trail_start (mesh_in net) (want_in run).main (want_in run).off at_source;
+          barred_met = λ u. omega (arith, ap (λ (x : Want). bit (barred_for x.role).nodes u) begins.want, bit_with (barred_for w.role).nodes at u, ap (λ (x : ℕ). bit x u) seen_source);
+          came = λ main off is. trail_start (mesh_in net) main off at_source;
         }
 
-    module _ {after : List ℕ} (s : Seeks net at (behind seen 0 e) run after) where
+    module _ {after : Run} (s : Seeks net at (behind seen 0 e) run after) where
       -- no route has more arcs: the source is met
       pub known_after : ArcsKnown net after most_arcs
       known_after =
-          known_most s.known (omega (arith, unmet_some 32 at seen (omega (arith, at_source, words.source_node)) (ap (λ (x : ℕ). bit x at) seen_source ∙ bit_with_same w.off.nodes at)))
+          known_most s.known (omega (arith, unmet_some 32 at seen (omega (arith, at_source, words.source_node)) (ap (λ (x : ℕ). bit x at) seen_source ∙ bit_with_same (barred_for w.role).nodes at)))
 
-      -- the track holds arcs of the mesh
-      pub track_known : (t : Track) → Holds t (route_of (arcs_in net) (arcs_found after)) → (k : ℕ) → Memᴰ k (route_in t).arcs → k < length (arcs_in net)
-      unfolding route_of
-      track_known t held k x = known_after.inside k (subst (λ (r : Route). Memᴰ k r.arcs) held.route x)
-
-      -- and all paths that meet no barred node are gone over
-      pub first_outcome : (t : Track) → Holds t (route_of (arcs_in net) (arcs_found after)) → Sure (mesh_in net) w
-          → OutcomeOverAll (apart_only net) (mesh_in net) w (sought_in (record { found = ltb 0 (word_at after count_at); passed = word_at after passed_at; track = t }))
+      -- all paths that meet no barred node are gone over
+      searched : Sure (mesh_in net) w → Comes net.apart (mesh_in net) w (unbarred (mesh_in net) (barred_for w.role)) (sought_so_far (arcs_in net) after)
       unfolding route_of metres_of exposure_of
-      first_outcome t held sure = subst (OutcomeOverAll only m w) (sym found) (fold_outcome only m w (unbarred m w.off))
+      searched sure = subst (Comes only m w (unbarred m (barred_for w.role))) (sym gone_over) (fold_comes only m w (unbarred m (barred_for w.role)))
         where
           only : Bool
-          only = apart_only net
+          only = net.apart
 
           m : Mesh
           m = mesh_in net
 
-          same : at ≡ m.source → seen ≡ with w.off.nodes m.source → e ≡ to_nothing → sought_from only m w at (behind seen 0 e) (begin only m w) ≡ sought_from only m w m.source (start_barred m w.off) (begin only m w)
+          same : at ≡ m.source → seen ≡ with (barred_for w.role).nodes m.source → e ≡ to_nothing
+              → sought_from only m w at (behind seen 0 e) (begin only m w) ≡ sought_from only m w m.source (start_barred m (barred_for w.role)) (begin only m w)
           same p q r = rw (p, q, r)
 
           first : sought_so_far (arcs_in net) run ≡ begin only m w
           first = none_so_far (arcs_in net) run begins.none_yet ∙ ap (λ (p : ℕ). record { found = false; passed = p; route = no_route }) begins.none_passed
 
-          searched : sought_so_far (arcs_in net) after ≡ sought_from only m w m.source (start_barred m w.off) (begin only m w)
-          searched =
+          gone_over : sought_so_far (arcs_in net) after ≡ sought_from only m w m.source (start_barred m (barred_for w.role)) (begin only m w)
+          gone_over =
               s.sought (subst (Sure m) (sym begins.want) sure)
               ∙ ap₂ (λ (x : Want) (y : Sought). sought_from only m x at (behind seen 0 e) y) begins.want first
-              ∙ same at_source (seen_source ∙ ap (with w.off.nodes) at_source) none
+              ∙ same at_source (seen_source ∙ ap (with (barred_for w.role).nodes) at_source) none
 
-          found : sought_in (record { found = ltb 0 (word_at after count_at); passed = word_at after passed_at; track = t }) ≡ sought_from only m w m.source (start_barred m w.off) (begin only m w)
-          found = ap (λ (r : Route). record { found = ltb 0 (word_at after count_at); passed = word_at after passed_at; route = r }) held.route ∙ searched
+      -- nothing is handed back where no arc is put down
+      pub none_outcome : is_found after ≡ false → Sure (mesh_in net) w → OutcomeOverAll net.apart (mesh_in net) w (Err after.passed)
+      none_outcome f sure = outcome_none net.apart (mesh_in net) w _ (searched sure) f after.passed refl
+
+      -- else the track holds the route, and arcs of the mesh
+      module _ (t : Track) (held : Holds t (route_of (arcs_in net) (arcs_found after))) where
+        pub track_known : (k : ℕ) → Memᴰ k (route_in t).arcs → k < length (arcs_in net)
+        unfolding route_of
+        track_known k x = known_after.inside k (subst (λ (r : Route). Memᴰ k r.arcs) held.route x)
+
+        pub some_outcome : is_found after ≡ true → Sure (mesh_in net) w → OutcomeOverAll net.apart (mesh_in net) w (Ok (record { passed = after.passed; track = t }))
+        some_outcome f sure = outcome_some net.apart (mesh_in net) w _ (searched sure) f (record { passed = after.passed; track = t }) refl held.route

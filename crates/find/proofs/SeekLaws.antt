@@ -1,5 +1,5 @@
 -- A search for the first wanted route: what one more route does to it, which arcs it may pass over, and what is left of it behind each arc. Assumes nothing.
-use mathlib.Core.Path.{◌≡◌, refl, sym, ap, ◌∙◌}
+use mathlib.Core.Path.{◌≡◌, refl, sym, ap, ◌∙◌, subst}
 use mathlib.Core.Logic.{◌⊎◌, inl, inr}
 use mathlib.Core.Bool.{Bool, true, false, not, true≢false, and-false}
 use mathlib.Core.List.{List, [], ◌∷◌, foldl, Memᴰ}
@@ -26,10 +26,19 @@ use Rattle.net.specs.declared.Behind.{Behind}
 use Rattle.net.specs.Search.{onto, along, last_of, no_arc, onward}
 use Rattle.net.proofs.NetLaws.{left_next}
 use Rattle.net.proofs.SearchLaws.{along_metres, along_exposure, last_own}
+use Rattle.labels.specs.declared.Labels.{Labels}
 use Rattle.labels.specs.Labels.{Shorter}
+use Rattle.bars.specs.declared.Barred.{Barred}
+use Rattle.find.specs.declared.Role.{Role}
+use Rattle.find.specs.declared.Role.TheVariants.{Main, Standby}
 use Rattle.find.specs.declared.Want.{Want}
-use Rattle.find.specs.Find.{is_wanted, shares_too_much, Sure, Sought, meet, seek, sought_from, Trails}
-use Rattle.find.proofs.TrailLaws.{late_fails}
+use Rattle.find.specs.Find.{IsStandby, barred_for, is_wanted, shares_too_much, Sure, Sought, passed_over, meet, seek, sought_from, Trails}
+use Rattle.find.proofs.TrailLaws.{standby_is, standby_wanted, late_fails}
+
+-- a standby that is not wanted changes nothing
+passed_standby : (role : Role) (s : Sought) → IsStandby role → passed_over role s ≡ s
+passed_standby (Main off) s h = absurd h
+passed_standby (Standby main off) s h = refl
 
 -- ---- one more route
 
@@ -49,13 +58,13 @@ module _ (only : Bool) (m : Mesh) (w : Want) (s : Sought) (e : Behind) (last : �
       go false f = rw (f, ne_eqb e.metres w.metres ne, meet)
 
   -- a standby that is not wanted changes nothing
-  pub meet_standby : w.as_main ≡ false → (e.metres ≡ w.metres → is_wanted only m w e last ≡ false) → meet only m w s e last ks ≡ s
+  pub meet_standby : IsStandby w.role → (e.metres ≡ w.metres → is_wanted only m w e last ≡ false) → meet only m w s e last ks ≡ s
   unfolding meet
   meet_standby standby fails = go s.found refl (eqb e.metres w.metres) refl
     where
       go : (b : Bool) → s.found ≡ b → (c : Bool) → eqb e.metres w.metres ≡ c → meet only m w s e last ks ≡ s
       go true f c g = rw (f, meet)
-      go false f true g = rw (f, g, fails (eqb-true e.metres w.metres g), standby, meet)
+      go false f true g = rw (f, g, fails (eqb-true e.metres w.metres g), meet) (passed_standby w.role _ standby)
       go false f false g = rw (f, g, meet)
 
   module _ (open_yet : s.found ≡ false) (same : e.metres ≡ w.metres) where
@@ -64,7 +73,7 @@ module _ (only : Bool) (m : Mesh) (w : Want) (s : Sought) (e : Behind) (last : �
     meet_wanted f = rw (open_yet, eq-eqb e.metres w.metres same, f)
 
     -- a main that is not wanted is counted
-    pub meet_passed : {p : ℕ} → w.as_main ≡ true → is_wanted only m w e last ≡ false → p ≡ min (s.passed + 1) most_allowance → meet only m w s e last ks ≡ record { found = false; passed = p; route = s.route }
+    pub meet_passed : {p : ℕ} {off : Barred} → w.role ≡ Main off → is_wanted only m w e last ≡ false → p ≡ min (s.passed + 1) most_allowance → meet only m w s e last ks ≡ record { found = false; passed = p; route = s.route }
     unfolding meet
     meet_passed main f g = rw (open_yet, eq-eqb e.metres w.metres same, f, main, g)
 
@@ -77,12 +86,12 @@ module _ (only : Bool) (m : Mesh) (w : Want) where
 
   -- so it is where nothing is found yet
   meet_either : (s : Sought) (e : Behind) (last : ℕ) → s.found ≡ false → Either s e last
-  meet_either s e last open_yet = go (eqb e.metres w.metres) refl (is_wanted only m w e last) refl w.as_main refl
+  meet_either s e last open_yet = go (eqb e.metres w.metres) refl (is_wanted only m w e last) refl w.role refl
     where
-      go : (a : Bool) → eqb e.metres w.metres ≡ a → (b : Bool) → is_wanted only m w e last ≡ b → (c : Bool) → w.as_main ≡ c → Either s e last
+      go : (a : Bool) → eqb e.metres w.metres ≡ a → (b : Bool) → is_wanted only m w e last ≡ b → (c : Role) → w.role ≡ c → Either s e last
       go true p true q c f = inl (λ ks. meet_wanted only m w s e last ks open_yet (eqb-true e.metres w.metres p) q)
-      go true p false q true f = inr (_, refl, λ ks. meet_passed only m w s e last ks open_yet (eqb-true e.metres w.metres p) f q refl)
-      go true p false q false f = inr (s, open_yet, λ ks. meet_standby only m w s e last ks f (λ x. q))
+      go true p false q (Main off) f = inr (_, refl, λ ks. meet_passed only m w s e last ks open_yet (eqb-true e.metres w.metres p) f q refl)
+      go true p false q (Standby main off) f = inr (s, open_yet, λ ks. meet_standby only m w s e last ks (standby_is f) (λ x. q))
       go false p b q c f = inr (s, open_yet, λ ks. meet_other only m w s e last ks (eqb-false e.metres w.metres p))
 
 -- ---- one arc in front
@@ -133,27 +142,29 @@ module _ (only : Bool) (m : Mesh) (w : Want) (b : Behind) (k : ℕ) where
 -- ---- what shares too much
 
 module _ (w : Want) (e : Exposure) (much : shares_too_much w e ≡ true) where
-  -- a standby is wanted
-  much_standby : w.as_main ≡ false
-  unfolding shares_too_much
-  much_standby = go w.as_main refl
-    where
-      go : (b : Bool) → w.as_main ≡ b → w.as_main ≡ false
-      go true f = absurd (true≢false (sym (rw f at much)))
-      go false f = f
+  -- a standby is wanted, of a smaller key
+  record TooMuch : Type 0 where
+    main : Exposure
+    off : Barred
+    is : w.role ≡ Standby main off
+    larger : w.key < standby_key (sharing main e) 0
 
-  much_key : w.key < standby_key (sharing w.main e) 0
+  too_much : TooMuch
   unfolding shares_too_much
-  much_key = ltb-true w.key (standby_key (sharing w.main e) 0) (rw much_standby at much)
+  too_much = go w.role refl
+    where
+      go : (r : Role) → w.role ≡ r → TooMuch
+      go (Main off) f = absurd (true≢false (sym (rw (f, shares_too_much) at much)))
+      go (Standby main off) f = record { main = main; off = off; is = f; larger = ltb-true w.key (standby_key (sharing main e) 0) (rw (f, shares_too_much) at much) }
 
   -- and nothing that goes on from there is: it shares no less
   much_fails : (only : Bool) (m : Mesh) (route : Behind) (last : ℕ) (more : Exposure) → route.exposure ≡ joined e more → is_wanted only m w route last ≡ false
-  unfolding is_wanted
   much_fails only m route last more is =
-      let no_less : sharing w.main e ≤ sharing w.main (joined e more) = sharing_mono w.main e w.main (joined e more) (λ r. omega arith) (inside_joined e more) in
+      let t = too_much in
+      let no_less : sharing t.main e ≤ sharing t.main (joined e more) = sharing_mono t.main e t.main (joined e more) (λ r. omega arith) (inside_joined e more) in
       let some_metres : 0 ≤ w.metres = omega arith in
-      let other = ne_eqb (standby_key (sharing w.main (joined e more)) w.metres) w.key (λ same. omega (arith, much_key, standby_key_mono no_less some_metres)) in
-      rw (much_standby, is_wanted, is, other) (and-false (not (eqb last w.off.last)))
+      let other = ne_eqb (standby_key (sharing t.main (joined e more)) w.metres) w.key (λ same. omega (arith, t.larger, standby_key_mono no_less some_metres)) in
+      standby_wanted only m w route last t.is ∙ rw (is, other) (and-false (not (eqb last t.off.last)))
 
 -- ---- one arc of a search
 
@@ -214,13 +225,18 @@ module _ (only : Bool) (m : Mesh) (w : Want) (at : ℕ) (b : Behind) where
     -- every route over the arc shares too much
     pub left_much : shares_too_much w (joined b.exposure (of_arc arc)) ≡ true → Left i s ≡ Left j s
     left_much much =
-        left_none (λ ks g. meet_standby only m w s _ _ (i ∷ ks) (much_standby w _ much) (λ e. much_fails w _ much only m _ (last_of i ks) (exposure_of m.arcs ks) (along_exposure m.arcs ahead ks)))
+        left_none (λ ks g. meet_standby only m w s _ _ (i ∷ ks) (standby_is (too_much w _ much).is) (λ e. much_fails w _ much only m _ (last_of i ks) (exposure_of m.arcs ks) (along_exposure m.arcs ahead ks)))
 
     -- every route over the arc comes late to its head; what is barred counts as met
-    pub left_late : Sure m w → w.as_main ≡ false → {store : List ℕ} → Trails m w store → ((u : ℕ) → bit w.off.nodes u ≤ bit b.met u) → arc.head ≤ last_node
-        → Shorter store arc.head (b.metres + arc.metres) (joined b.exposure (of_arc arc)) → Left i s ≡ Left j s
-    left_late sure standby t barred_met node late =
-        left_none (λ ks g. meet_standby only m w s _ _ (i ∷ ks) standby (λ e. late_fails m w sure standby t ahead node late only i g (λ u. omega (arith, barred_met u, bit_with b.met arc.head u)) e))
+    pub left_late : Sure m w → IsStandby w.role → {labels : Labels} → Trails m w labels → ((u : ℕ) → bit (barred_for w.role).nodes u ≤ bit b.met u) → arc.head ≤ last_node
+        → Shorter labels arc.head (b.metres + arc.metres) (joined b.exposure (of_arc arc)) → Left i s ≡ Left j s
+    left_late sure standby t barred_met node late = go w.role refl
+      where
+        go : (r : Role) → w.role ≡ r → Left i s ≡ Left j s
+        go (Main off) is = absurd (subst IsStandby is standby)
+        go (Standby main off) is =
+            left_none (λ ks g. meet_standby only m w s _ _ (i ∷ ks) standby
+            (λ e. late_fails m w sure is t ahead node late only i g (λ u. omega (arith, barred_met u, ap (λ (r : Role). bit (barred_for r).nodes u) is, bit_with b.met arc.head u)) e))
 
     module _ (new : bit met arc.head ≡ 0) (tail : arc.tail ≡ at) where
       -- a route ends with the arc

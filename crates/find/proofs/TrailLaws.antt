@@ -1,7 +1,7 @@
 -- Ways to a node that keep off what is barred, which a search for a standby labels: one arc further, in the store, and why what comes late by one of them is not
 -- wanted: the shorter way that went before it, going on alike, would make a smaller key than the least. Assumes nothing.
 use mathlib.Core.Path.{◌≡◌, refl, sym, ap, ◌∙◌, subst}
-use mathlib.Core.Bool.{Bool, true, false}
+use mathlib.Core.Bool.{Bool, true, false, not, ◌&&◌}
 use mathlib.Core.List.{List, [], ◌∷◌, ◌++◌}
 use Prim.Native.Nat.{ℕ, ◌+◌, ◌≤◌, ◌<◌}
 use native.Mathlib.Decide.{ℕ_discrete}
@@ -22,17 +22,26 @@ use Rattle.problem.proofs.WayLaws.{way_append, metres_append, exposure_append}
 use Rattle.exposure.proofs.WordLaws.{inside_at}
 use Rattle.keys.specs.Keys.{standby_key}
 use Rattle.net.specs.declared.Behind.{Behind}
-use Rattle.net.specs.Net.{word_at}
 use Rattle.net.specs.Search.{along, last_of}
 use Rattle.net.proofs.SearchLaws.{along_metres, along_exposure}
 use Rattle.bars.specs.declared.Barred.{Barred}
 use Rattle.bars.specs.Bars.{Avoids}
 use Rattle.standby.proofs.AvoidLaws.{grown_avoids}
-use Rattle.labels.specs.Labels.{labelled_at, label_metres, label_exposure, Shorter, Cleared, Labelled}
-use Rattle.cores.specs.Cores.{Stored}
-use Rattle.cores.proofs.CoreLaws.{frame_kept, stored_kept}
+use Rattle.labels.specs.declared.Labels.{Labels}
+use Rattle.labels.specs.Labels.{label_metres, label_exposure, Shorter, Cleared, Labelled}
+use Rattle.find.specs.declared.Role.{Role}
+use Rattle.find.specs.declared.Role.TheVariants.{Standby}
 use Rattle.find.specs.declared.Want.{Want}
-use Rattle.find.specs.Find.{is_wanted, Sure, Trail, Trails, Arrived}
+use Rattle.find.specs.Find.{IsStandby, is_wanted, Sure, Trail, Trails, Arrived}
+
+pub standby_is : {role : Role} {main : Exposure} {off : Barred} → role ≡ Standby main off → IsStandby role
+standby_is e = subst IsStandby (sym e) tt
+
+-- the test of a standby
+pub standby_wanted : (only : Bool) (m : Mesh) (w : Want) (route : Behind) (last : ℕ) {main : Exposure} {off : Barred} → w.role ≡ Standby main off
+    → is_wanted only m w route last ≡ (not (eqb last off.last) && eqb (standby_key (sharing main route.exposure) w.metres) w.key)
+unfolding is_wanted
+standby_wanted only m w route last e = rw (e, is_wanted)
 
 -- ---- a way to a node
 
@@ -64,76 +73,85 @@ module _ (m : Mesh) (main : Exposure) (off : Barred) where
             (simp (exposed_common, exposed_joined) (omega (arith, t.no_more r, exposed_common main (exposure_of m.arcs t.list) r)));
       }
 
--- ---- in the store
+-- ---- in the labels
 
 module _ (m : Mesh) (w : Want) where
-  pub trails_none : {before after : List ℕ} → Cleared before after → Trails m w after
-  trails_none c = record { told = λ s v h b. absurd (omega (arith, b, ap (λ (x : ℕ). bit x v) c.none, bit_empty v)) }
+  pub trails_none : {labels : Labels} → Cleared labels → Trails m w labels
+  trails_none c = record { told = λ main off s v h b. absurd (omega (arith, b, ap (λ (x : ℕ). bit x v) c, bit_empty v)) }
 
-  pub trails_same : {before after : List ℕ} → (w.as_main ≡ false → after ≡ before) → Trails m w before → Trails m w after
+  pub trails_same : {before after : Labels} → (IsStandby w.role → after ≡ before) → Trails m w before → Trails m w after
   trails_same {before} {after} e t = record {
-    told = λ s v h b.
-        subst (λ (x : List ℕ). Trail m w.main w.off v (label_metres x v) (label_exposure x v)) (sym (e s)) (t.told s v h (ap (λ (x : List ℕ). bit (word_at x labelled_at) v) (sym (e s)) ∙ b));
+    told = λ main off s v h b.
+        let same = sym (e (standby_is s)) in
+        subst (λ (x : Labels). Trail m main off v (label_metres x v) (label_exposure x v)) same (t.told main off s v h (ap (λ (x : Labels). bit x.labelled v) same ∙ b));
   }
 
-  trails_kept : {v metres : ℕ} (e : Exposure) {before after : List ℕ} → Trails m w before → Trail m w.main w.off v metres e
-      → Labelled v metres (common w.main e) before after → Trails m w after
-  trails_kept {v} {metres} e {before} {after} t o k = record {
-    told = λ s u h b. elim (ℕ_discrete u v) [
-      | yes p ↦ own u p
-      | no ne ↦ other s u h ne (omega (arith, b, ap (λ (x : ℕ). bit x u) k.labelled, bit_with_other (word_at before labelled_at) v u ne))
-    ];
+  -- something came to v by a way that keeps off what is barred
+  abbrev Came : (v metres : ℕ) → Exposure → Type 0
+  Came v metres e = (main : Exposure) (off : Barred) → w.role ≡ Standby main off → Trail m main off v metres e
+
+  trails_kept : {v metres : ℕ} (e : Exposure) {before after : Labels} → Trails m w before → Came v metres e → {main : Exposure} {off : Barred} → w.role ≡ Standby main off
+      → Labelled v metres (common main e) before after → Trails m w after
+  trails_kept {v} {metres} e {before} {after} t came {main} {off} is k = record {
+    told = λ main' off' is' u h b. subst (λ (r : Exposure × Barred). Trail m r.0 r.1 u (label_metres after u) (label_exposure after u)) (same main' off' is') (here u h b);
   }
     where
-      shared : Trail m w.main w.off v metres (common w.main e)
-      shared = record { list = o.list; way = o.way; keeps_off = o.keeps_off; no_longer = o.no_longer; no_more = λ r. simp exposed_common (omega (arith, o.no_more r, exposed_common w.main (exposure_of m.arcs o.list) r)) }
+      same : (main' : Exposure) (off' : Barred) → w.role ≡ Standby main' off' → ◌≡◌ {A = Exposure × Barred} (main, off) (main', off')
+      same main' off' is' = cc
 
-      own : (u : ℕ) → u ≡ v → Trail m w.main w.off u (label_metres after u) (label_exposure after u)
-      own u p = subst (λ (y : ℕ). Trail m w.main w.off y (label_metres after y) (label_exposure after y)) (sym p) (rw (k.metres_is, k.exposure_is) shared)
+      o : Trail m main off v metres e
+      o = came main off is
 
-      other : w.as_main ≡ false → (u : ℕ) → u ≤ last_node → (u ≡ v → ⊥) → bit (word_at before labelled_at) u ≡ 1 → Trail m w.main w.off u (label_metres after u) (label_exposure after u)
-      other s u h ne b = rw (k.other_metres u h ne, k.other_exposure u h ne) (t.told s u h b)
+      shared : Trail m main off v metres (common main e)
+      shared = record { list = o.list; way = o.way; keeps_off = o.keeps_off; no_longer = o.no_longer; no_more = λ r. simp exposed_common (omega (arith, o.no_more r, exposed_common main (exposure_of m.arcs o.list) r)) }
 
-  pub trails_arrived : {v metres : ℕ} (e : Exposure) {before after : List ℕ} → Trails m w before → Trail m w.main w.off v metres e → Arrived w v metres e before after → Trails m w after
-  trails_arrived e t o (Arrived.same p) = trails_same (λ s. p) t
-  trails_arrived e t o (Arrived.labelled k) = trails_kept e t o k
+      own : (u : ℕ) → u ≡ v → Trail m main off u (label_metres after u) (label_exposure after u)
+      own u p = subst (λ (y : ℕ). Trail m main off y (label_metres after y) (label_exposure after y)) (sym p) (rw (k.metres_is, k.exposure_is) shared)
+
+      other : (u : ℕ) → u ≤ last_node → (u ≡ v → ⊥) → bit before.labelled u ≡ 1 → Trail m main off u (label_metres after u) (label_exposure after u)
+      other u h ne b = rw (k.other_metres u h ne, k.other_exposure u h ne) (t.told main off is u h b)
+
+      here : (u : ℕ) → u ≤ last_node → bit after.labelled u ≡ 1 → Trail m main off u (label_metres after u) (label_exposure after u)
+      here u h b = elim (ℕ_discrete u v) [
+        | yes p ↦ own u p
+        | no ne ↦ other u h ne (omega (arith, b, ap (λ (x : ℕ). bit x u) k.labelled, bit_with_other before.labelled v u ne))
+      ]
+
+  pub trails_arrived : {v metres : ℕ} (e : Exposure) {before after : Labels} → Trails m w before → Came v metres e → Arrived w v metres e before after → Trails m w after
+  trails_arrived e t came (Arrived.same p) = trails_same (λ s. p) t
+  trails_arrived e t came (Arrived.labelled main off is k) = trails_kept e t came is k
 
   -- ---- what comes late
 
-  module _ (sure : Sure m w) (standby : w.as_main ≡ false) {store : List ℕ} (t : Trails m w store) {v : ℕ} (b : Behind) (node : v ≤ last_node) (late : Shorter store v b.metres b.exposure) where
-    abbrev earlier : Trail m w.main w.off v (label_metres store v) (label_exposure store v)
-    earlier = t.told standby v node late.labelled
+  module _ (sure : Sure m w) {main : Exposure} {off : Barred} (standby : w.role ≡ Standby main off) {labels : Labels} (t : Trails m w labels) {v : ℕ} (b : Behind) (node : v ≤ last_node) (late : Shorter labels v b.metres b.exposure) where
+    abbrev earlier : Trail m main off v (label_metres labels v) (label_exposure labels v)
+    earlier = t.told main off standby v node late.labelled
 
     abbrev arcs : List Arc
     arcs = m.arcs
 
     -- the earlier way, going on alike, shares no more
-    shares_less : (ks : List ℕ) → sharing w.main (joined to_nothing (exposure_of arcs (earlier.list ++ ks))) ≤ sharing w.main (joined b.exposure (exposure_of arcs ks))
+    shares_less : (ks : List ℕ) → sharing main (joined to_nothing (exposure_of arcs (earlier.list ++ ks))) ≤ sharing main (joined b.exposure (exposure_of arcs ks))
     shares_less ks =
         rw (nothing_joined, exposure_append arcs earlier.list ks)
-        (sharing_part w.main (exposure_of arcs earlier.list) b.exposure (exposure_of arcs ks)
-        (λ r. omega (arith, earlier.no_more r, inside_at (label_exposure store v) b.exposure late.no_more r)))
+        (sharing_part main (exposure_of arcs earlier.list) b.exposure (exposure_of arcs ks)
+        (λ r. omega (arith, earlier.no_more r, inside_at (label_exposure labels v) b.exposure late.no_more r)))
 
     -- and keeps off what is barred too, unless the list ahead ends with the barred arc, and then it is not wanted
-    pub late_fails : (only : Bool) (before : ℕ) {ks : List ℕ} → Grown arcs m.terminal b.met v ks → ((u : ℕ) → bit w.off.nodes u ≤ bit b.met u)
+    pub late_fails : (only : Bool) (before : ℕ) {ks : List ℕ} → Grown arcs m.terminal b.met v ks → ((u : ℕ) → bit off.nodes u ≤ bit b.met u)
         → (along arcs b ks).metres ≡ w.metres → is_wanted only m w (along arcs b ks) (last_of before ks) ≡ false
-    unfolding is_wanted standby_key
-    late_fails only before {ks} g barred_met is = go (eqb (last_of before ks) w.off.last) refl
+    unfolding standby_key
+    late_fails only before {ks} g barred_met is = go (eqb (last_of before ks) off.last) refl
       where
-        go : (x : Bool) → eqb (last_of before ks) w.off.last ≡ x → is_wanted only m w (along arcs b ks) (last_of before ks) ≡ false
-        go true f = rw (standby, f, is_wanted)
+        passes : is_wanted only m w (along arcs b ks) (last_of before ks) ≡ (not (eqb (last_of before ks) off.last) && eqb (standby_key (sharing main (along arcs b ks).exposure) w.metres) w.key)
+        passes = standby_wanted only m w (along arcs b ks) (last_of before ks) standby
+
+        go : (x : Bool) → eqb (last_of before ks) off.last ≡ x → is_wanted only m w (along arcs b ks) (last_of before ks) ≡ false
+        go true f = passes ∙ rw f
         go false f =
             let js = earlier.list ++ ks in
             let shorter : metres_of arcs js < w.metres = omega (arith, metres_append arcs earlier.list ks, earlier.no_longer, late.is_shorter, along_metres arcs b ks, is) in
-            let ahead = avoids_append m w.off ks earlier.keeps_off (grown_avoids m w.off before barred_met g (eqb-false (last_of before ks) w.off.last f)) in
-            let least = ((sure.least standby).ahead (length js)).above js (record { way = way_append arcs ks earlier.way (grown_way arcs m.terminal g); avoids = ahead; within_reach = omega (arith, shorter, sure.in_reach standby) }) (omega arith) in
-            rw (standby, f, along_exposure arcs b ks, is_wanted)
-            (ne_eqb (standby_key (sharing w.main (joined b.exposure (exposure_of arcs ks))) w.metres) w.key (λ same. omega (arith, same, least, shorter, shares_less ks)))
-
--- the cores are as they were
-pub stored_arrived : (net : List ℕ) {w : Want} {v metres : ℕ} {e : Exposure} {before after : List ℕ} → Arrived w v metres e before after → Stored net before → Stored net after
-stored_arrived net (Arrived.same p) s = subst (λ (x : List ℕ). Stored net x) (sym p) s
-stored_arrived net (Arrived.labelled k) s = stored_kept net (frame_kept k.frame) s
-
-pub stored_cleared : (net : List ℕ) {before after : List ℕ} → Cleared before after → Stored net before → Stored net after
-stored_cleared net c s = stored_kept net (frame_kept c.frame) s
+            let ahead = avoids_append m off ks earlier.keeps_off (grown_avoids m off before barred_met g (eqb-false (last_of before ks) off.last f)) in
+            let least = ((sure.least main off standby).ahead (length js)).above js (record { way = way_append arcs ks earlier.way (grown_way arcs m.terminal g); avoids = ahead; within_reach = omega (arith, shorter, sure.in_reach (standby_is standby)) }) (omega arith) in
+            passes ∙ rw (f, along_exposure arcs b ks)
+            (ne_eqb (standby_key (sharing main (joined b.exposure (exposure_of arcs ks))) w.metres) w.key (λ same. omega (arith, same, least, shorter, shares_less ks)))

@@ -20,8 +20,8 @@ use Rattle.exposure.specs.Parts.{all_but}
 use Rattle.exposure.proofs.PartLaws.{exposed_all_but}
 use Rattle.side.specs.declared.Distance.{Distance}
 use Rattle.side.specs.Side.{entry_at, SideTable}
-use Rattle.floor.specs.declared.Ways.{Ways}
-use Rattle.floor.specs.Clearing.{exposure_at, Clearing, Finished}
+use Rattle.floor.specs.declared.Held.{Held}
+use Rattle.floor.specs.Clearing.{held_at, exposure_at, Clearing, Finished}
 use Rattle.floor.specs.Floor.{is_near, narrowed, OnEveryWay, Narrowed, Asked}
 use Rattle.floor.proofs.ClearLaws.{way_free}
 
@@ -52,20 +52,20 @@ module _ {arcs : List Arc} {terminal : ℕ} {banned : Exposure} {s : List Distan
       go false e = table.none v e ks w
 
 -- lengths grow within reach only
-near_plain : {arcs : List Arc} {terminal reach : ℕ} {plain : List Distance} {s : Ways} → Clearing arcs terminal reach plain s → (v : ℕ)
-    → is_near (entry_at plain v) reach ≡ true → is_near (entry_at s.entries v) reach ≡ true
+near_plain : {arcs : List Arc} {terminal reach : ℕ} {plain : List Distance} {s : List Held} → Clearing arcs terminal reach plain s → (v : ℕ)
+    → is_near (entry_at plain v) reach ≡ true → is_near (held_at s v).entry reach ≡ true
 near_plain {reach = reach} {plain} {s} c v f =
     let e = near_says (entry_at plain v) reach f in
-    near_by (entry_at s.entries v) reach (c.same_reached v ∙ e.0) (omega (arith, c.within v, e.1))
+    near_by (held_at s v).entry reach (c.same_reached v ∙ e.0) (omega (arith, c.within v, e.1))
 
 -- ---- what `narrow` returns
 
-module _ (left : Exposure) (s : Ways) (source reach : ℕ) where
-  pub narrowed_not : is_near (entry_at s.entries source) reach ≡ false → left ≡ narrowed left s source reach
+module _ (left : Exposure) (s : List Held) (source reach : ℕ) where
+  pub narrowed_not : is_near (held_at s source).entry reach ≡ false → left ≡ narrowed left s source reach
   unfolding narrowed
   narrowed_not e = rw e
 
-  pub narrowed_near : is_near (entry_at s.entries source) reach ≡ true → common left (exposure_at s source) ≡ narrowed left s source reach
+  pub narrowed_near : is_near (held_at s source).entry reach ≡ true → common left (exposure_at s source) ≡ narrowed left s source reach
   unfolding narrowed
   narrowed_near e = rw e
 
@@ -74,19 +74,19 @@ module _ (left : Exposure) (s : Ways) (source reach : ℕ) where
 narrowed_same : (m : Mesh) (left : Exposure) → Narrowed m left left
 narrowed_same m left = record { kept = λ b l o h. h; fewer = λ b. omega arith }
 
-module _ (m : Mesh) (left : Exposure) (plain : List Distance) (s : Ways) where
+module _ (m : Mesh) (left : Exposure) (plain : List Distance) (s : List Held) where
   abbrev narrowing : Exposure
   narrowing = narrowed left s m.source m.reach
 
   abbrev near : Bool
-  near = is_near (entry_at s.entries m.source) m.reach
+  near = is_near (held_at s m.source).entry m.reach
 
   pub narrowed_says : Clearing m.arcs m.terminal m.reach plain s → Narrowed m left narrowing
   narrowed_says c = go near refl
     where
       has : near ≡ true → (b : ℕ) → b < hazards → OnEveryWay m b → exposed (exposure_at s m.source) b ≡ 0 → ⊥
       has f b l o z =
-          let e = near_says (entry_at s.entries m.source) m.reach f in
+          let e = near_says (held_at s m.source).entry m.reach f in
           let w = c.avoids m.source e.0 b l z in
           omega (arith, o w.list (record { way = w.way; within_reach = omega (arith, w.short, e.1) }), w.free)
 

@@ -5,17 +5,16 @@ use Rattle.problem.specs.Table.{hazards}
 use Rattle.problem.specs.Exposures.{exposed, common}
 use Rattle.problem.specs.Routes.{Mesh, exposure_of, IsWay}
 use Rattle.side.specs.declared.Distance.{Distance}
-use Rattle.side.specs.Side.{entry_at}
-use Rattle.floor.specs.declared.Ways.{Ways}
-use Rattle.floor.specs.Clearing.{exposure_at}
+use Rattle.floor.specs.declared.Held.{Held}
+use Rattle.floor.specs.Clearing.{held_at, exposure_at}
 
 -- an entry says a way within reach
 unfoldable pub is_near : Distance → (reach : ℕ) → Bool
 is_near e reach = e.reached && leb e.metres reach
 
 -- only what the source is exposed to as well, where its entry's length is within reach
-unfoldable pub narrowed : (left : Exposure) → Ways → (source reach : ℕ) → Exposure
-narrowed left s source reach = if is_near (entry_at s.entries source) reach then common left (exposure_at s source) else left
+unfoldable pub narrowed : (left : Exposure) → List Held → (source reach : ℕ) → Exposure
+narrowed left s source reach = if is_near (held_at s source).entry reach then common left (exposure_at s source) else left
 
 module _ (m : Mesh) where
   -- risk b lies on every way within reach; loops are allowed

@@ -5,7 +5,7 @@ use mathlib.Core.Bool.{Bool, true, false}
 use Prim.Native.Nat.{ℕ, ◌+◌, ◌*◌, ◌-◌, ◌/◌, ◌%◌, ◌^◌, ◌≤◌, ◌<◌}
 use native.Mathlib.Omega.{arith}
 use lib.Dec.{ltb}
-use borrow.Author.Tests.{ltb-true, ltb-false, lt-ltb, le-ltb}
+use borrow.Author.Tests.{ltb-true, ltb-false, lt-ltb}
 use Rattle.problem.specs.Table.{hazards, most_reach}
 use Rattle.keys.specs.Keys.{standby_key, OfStandby, no_standby, raised, pair_key, shared_of, total_of, main_of, bound_for, pair_of}
 
@@ -30,16 +30,6 @@ standby_parts {key} o =
 pub standby_below : {key : ℕ} → OfStandby key → key < no_standby
 unfolding standby_key
 standby_below o = omega (arith, o.is, o.shared_range, o.metres_range)
-
--- the bound's two cases, by the numbers that the best pair's key says
-module _ (best : ℕ) {shared total main metres : ℕ} (s : shared ≡ shared_of best) (t : total ≡ total_of best) (m : main ≡ main_of best) where
-  pub bound_early : metres < main → standby_key shared (total + 1 - metres) ≡ bound_for best metres
-  unfolding bound_for
-  bound_early h = rw (lt-ltb metres (main_of best) (omega arith), bound_for, s, t)
-
-  pub bound_late : main ≤ metres → standby_key shared (total - metres) ≡ bound_for best metres
-  unfolding bound_for
-  bound_late h = rw (le-ltb metres (main_of best) (omega arith), bound_for, s, t)
 
 -- one more than a pair's key asks of a standby one more than the pair's own standby has
 pub bound_next : (n x y : ℕ) → x ≤ most_reach → y ≤ most_reach → bound_for (pair_key n (x + y) x + 1) x ≡ standby_key n y + 1

@@ -1,2 +1,1 @@
-pub mod SpreadLaws
 pub mod LayoutLaws

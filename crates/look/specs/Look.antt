@@ -1,10 +1,11 @@
 -- What an arc is to a search. Assumes nothing.
-use Rattle.std.specs.Prelude.{ℕ, ◌+◌, List, eqb, ltb, if◌then◌else◌}
+use Rattle.std.specs.Prelude.{ℕ, ◌+◌, eqb, ltb, if◌then◌else◌}
 use Rattle.laws.specs.Sets.{bit}
 use Rattle.problem.specs.declared.Arc.{Arc}
 use Rattle.problem.specs.Routes.{arc_at}
+use Rattle.net.specs.declared.Net.{Net}
 use Rattle.net.specs.declared.Behind.{Behind}
-use Rattle.net.specs.Net.{lower_from, word_at, arcs_in, mesh_in}
+use Rattle.net.specs.Net.{arcs_in, mesh_in, lower_at}
 use Rattle.net.specs.Search.{onto}
 use Rattle.look.specs.declared.Leg.{Leg}
 use Rattle.look.specs.declared.Leg.TheVariants.{Met, Past, Ends, Leads}
@@ -17,6 +18,6 @@ leg_of terminal hi lower b a =
     else (if eqb a.head terminal then Ends (onto b a)
     else Leads a.head (onto b a)))
 
--- arc i of the words
-abbrev pub leg_at : (net : List ℕ) (hi : ℕ) → Behind → ℕ → Leg
-leg_at net hi b i = leg_of (mesh_in net).terminal hi (word_at net (lower_from + (arc_at (arcs_in net) i).head)) b (arc_at (arcs_in net) i)
+-- arc i of the net
+abbrev pub leg_at : (net : Net) (hi : ℕ) → Behind → ℕ → Leg
+leg_at net hi b i = leg_of (mesh_in net).terminal hi (lower_at net (arc_at (arcs_in net) i).head) b (arc_at (arcs_in net) i)

@@ -3,11 +3,11 @@
 
 ghost use Rattle.std.specs.Prelude.{◌≡◌, ◌≤◌, ◌<◌, length};
 ghost use Rattle.problem.specs.Table.{most_reach};
-ghost use Rattle.net.specs.Net.{Net, arcs_in};
+ghost use Rattle.net.specs.Net.{IsNet, arcs_in};
 ghost use Rattle.net.specs.Search.{behind};
 ghost use Rattle.look.specs.Look.{leg_at};
 
-use net::Behind;
+use net::{Behind, Net};
 use problem::Exposure;
 
 // An arc looked at.
@@ -24,26 +24,26 @@ pub enum Leg {
 }
 
 // What arc i is to a search for routes of at most hi metres.
-pub fn look(net: &[u64], i: u64, met: u64, metres: u64, exposure: Exposure, hi: u64) -> Leg
-    requires { Net net.now × (i < length (arcs_in net.now)) × (metres ≤ most_reach) }
+pub fn look(net: &Net, i: u64, met: u64, metres: u64, exposure: Exposure, hi: u64) -> Leg
+    requires { IsNet net.now × (i < length (arcs_in net.now)) × (metres ≤ most_reach) }
     ensures { result ≡ leg_at net.now hi (behind met metres exposure) i }
 {
-    let head = net::head(net, i);
+    let head = net.head(i);
     if sets::has(met, head as u8) {
         return Leg::Met;
     }
-    let m = metres + net::metres(net, i);
-    let to = m + net::lower(net, head);
+    let metres = metres + net.metres(i);
+    let to = metres + net.lower(head);
     if hi < to {
         return Leg::Past(to);
     }
-    let e = exposure::joined(exposure, net::exposure(net, i));
+    let joined = exposure::joined(exposure, net.exposure(i));
     let on = Behind {
         met: sets::with(met, head as u8),
-        metres: m,
-        exposure: e,
+        metres,
+        exposure: joined,
     };
-    if head == net::terminal(net) {
+    if head == net.terminal() {
         return Leg::Ends(on);
     }
     Leg::Leads(head, on)

@@ -25,7 +25,7 @@ best_with m main off best = searched m (paired m main off.last) (start_barred m 
 unfoldable pub tried : (only : Bool) → Mesh → (cap : ℕ) (main : Behind) (last : ℕ) → Tally → Tally
 tried only m cap main last t =
     if t.over then t
-    else (if leb cap t.ranked then record { ranked = t.ranked; last = t.last; best = t.best; over = true }
+    else (if leb cap t.ranked then record t { over = true }
     else counted main.metres (best_with m main (barred_by only m main.met last) t.best) t)
 
 -- the tally before any main

@@ -3,24 +3,19 @@
 
 ghost use Rattle.std.specs.Prelude.{◌≡◌, ◌≤◌};
 ghost use Rattle.problem.specs.Table.{most_reach};
-ghost use Rattle.net.specs.Net.{Net, mesh_in, apart_only};
+ghost use Rattle.net.specs.Net.{IsNet, mesh_in};
 ghost use Rattle.bars.specs.Bars.{barred_by};
 ghost use Rattle.cores.specs.Cores.{Stored};
 ghost use Rattle.mains.specs.Mains.{best_with, tried};
 
-use net::Behind;
+use cores::Store;
+use net::{Behind, Net};
 use tally::Tally;
 
 // The key of the best pair after a main, at whose end `main` lies behind and which ends with arc `last`, was tried with every standby that it does not bar.
-fn best_with(
-    net: &[u64; net::SIZE],
-    store: &mut [u64; cores::OWN_WORDS],
-    main: Behind,
-    last: u64,
-    best: u64,
-) -> u64
-    requires { Net net.now × (main.metres ≤ most_reach) × Stored net.now store.old }
-    ensures best { result ≡ best_with (mesh_in net.now) main (barred_by (apart_only net.now) (mesh_in net.now) main.met last) best }
+fn best_with(net: &Net, store: &mut Store, main: Behind, last: u64, best: u64) -> u64
+    requires { IsNet net.now × (main.metres ≤ most_reach) × Stored net.now store.old }
+    ensures best { result ≡ best_with (mesh_in net.now) main (barred_by net.now.apart (mesh_in net.now) main.met last) best }
     ensures stored { Stored net.now store.new }
 {
     let bound = keys::bound_for(best, main.metres);
@@ -33,28 +28,16 @@ fn best_with(
 }
 
 // The tally after one more main; past the cap it only says that there was one more.
-pub fn try_main(
-    net: &[u64; net::SIZE],
-    store: &mut [u64; cores::OWN_WORDS],
-    cap: u64,
-    main: Behind,
-    last: u64,
-    t: Tally,
-) -> Tally
-    requires { Net net.now × (main.metres ≤ most_reach) × Stored net.now store.old }
-    ensures tally { result ≡ tried (apart_only net.now) (mesh_in net.now) cap main last t }
+pub fn try_main(net: &Net, store: &mut Store, cap: u64, main: Behind, last: u64, t: Tally) -> Tally
+    requires { IsNet net.now × (main.metres ≤ most_reach) × Stored net.now store.old }
+    ensures tally { result ≡ tried net.now.apart (mesh_in net.now) cap main last t }
     ensures stored { Stored net.now store.new }
 {
     if t.over {
         return t;
     }
     if cap <= t.ranked {
-        return Tally {
-            ranked: t.ranked,
-            last: t.last,
-            best: t.best,
-            over: true,
-        };
+        return Tally { over: true, ..t };
     }
     let best = best_with(net, store, main, last, t.best);
     tally::one_more(main.metres, best, t)

@@ -1,5 +1,5 @@
 -- From the ends of a call to what the definitions give. Assumes nothing.
-use Prim.Native.Nat.{ℕ, zero, suc, ◌+◌, ◌≤◌}
+use Prim.Native.Nat.{ℕ, ◌+◌, ◌≤◌}
 use mathlib.Core.List.{List, ◌++◌}
 use mathlib.Core.Path.{◌≡◌, refl, sym, ap, ◌∙◌}
 use native.Mathlib.Omega.{arith}
@@ -13,6 +13,9 @@ use Rattle.problem.proofs.MendCallLaws.{mend_fits, zero_exactly}
 use Rattle.octets.specs.Puts.{Puts}
 use Rattle.octets.proofs.PutLaws.{puts_as, puts_next, puts_whole, puts_length}
 use Rattle.mend.specs.declared.Done.{Done}
+use Rattle.mend.specs.declared.Refusal.{Refusal}
+use Rattle.mend.specs.declared.Refusal.TheVariants.{InputTooLong, OutputTooShort}
+use Rattle.mend.specs.Refusals.{refusal_number}
 use Rattle.mend.specs.Steps.{list_from, torn_bytes, Roomy, AllStepped}
 use Rattle.mend.proofs.WrittenLaws.{torn_short}
 
@@ -29,16 +32,16 @@ ending {table₀ = table₀} {list₀} is number_is table_length list_length tab
     }
 
 -- by a check
-pub refused : {input table list : List ℕ} (n : ℕ) → n ≡ first_number (mend_checks input (length table) (length list)) → (n ≡ 0 → ⊥) → Mends input table list n 0 0 table list
+pub refused : {input table list : List ℕ} (r : Refusal) → refusal_number r ≡ first_number (mend_checks input (length table) (length list)) → Mends input table list (refusal_number r) 0 0 table list
 unfolding mending mending_unless
-refused zero e some = absurd (some refl)
-refused {input} (suc n) e some = ending (ap (λ (x : ℕ). mending_unless x input) (sym e)) refl refl refl refl refl
+refused {input} InputTooLong e = ending (ap (λ (x : ℕ). mending_unless x input) (sym e)) refl refl refl refl refl
+refused {input} OutputTooShort e = ending (ap (λ (x : ℕ). mending_unless x input) (sym e)) refl refl refl refl refl
 
 -- by none
-pub roomy : {input : List ℕ} {n m : ℕ} → first_number (mend_checks input n m) ≡ 0 → Roomy input n m
+pub roomy : {input : List ℕ} {n m : ℕ} → 0 ≡ first_number (mend_checks input n m) → Roomy input n m
 unfolding mending mending_unless
 roomy {input} {n} {m} e =
-    let r = (zero_exactly input n m).0 (ap (λ (x : ℕ). (mending_unless x input).number) e) in
+    let r = (zero_exactly input n m).0 (ap (λ (x : ℕ). (mending_unless x input).number) (sym e)) in
     record { few = r.0; table_room = r.1; list_room = r.2 }
 
 module _ {input table₀ table list₀ list : List ℕ} {done : Done} (room : Roomy input (length table₀) (length list₀)) (all : AllStepped input done table₀ table list₀ list) where

@@ -2,42 +2,72 @@
 use Prim.Native.Nat.{ℕ, ◌+◌, ◌≤◌, ◌<◌}
 use mathlib.Core.Bool.{Bool, true, false}
 use mathlib.Core.List.{List, []}
-use mathlib.Core.Path.{◌≡◌, refl, ap, ◌∙◌}
+use mathlib.Core.Path.{◌≡◌, refl, sym, ap, ◌∙◌}
 use native.Mathlib.Omega.{arith}
 use lib.ListN.{length}
-use Rattle.std.specs.Prelude.{if◌then◌else◌}
+use Rattle.std.specs.Prelude.{Option, Some, None, is_some, not, if◌then◌else◌}
 use Rattle.problem.specs.declared.Fault.{Fault}
+use Rattle.problem.specs.declared.Fault.TheVariants.{Node, EqualEnds, Length}
 use Rattle.problem.specs.declared.Reason.{Reason}
 use Rattle.problem.specs.Table.{record_at, arcs_of, fault_of}
 use Rattle.problem.specs.Routes.{arc_at}
-use Rattle.problem.specs.Mending.{whole_arcs, fault_at, may_stay, stays, new_number, reason_for, reason_at, is_lost, changed, is_changed, change_at, change_bytes}
+use Rattle.problem.specs.Mending.{whole_arcs, fault_at, may_stay, new_number, reason_for, reason_at, reason_number, changed, is_changed, change_at, change_bytes, lost}
 use Rattle.problem.proofs.TableLaws.{arcs_at}
 use Rattle.problem.proofs.MendLaws.{whole_record, new_stays, new_removed}
 use Rattle.problem.proofs.ChangeLaws.{change_length}
+use Rattle.octets.specs.Puts.{Puts}
+use Rattle.octets.proofs.PutLaws.{puts_none, puts_as}
+use Rattle.mend.specs.declared.Done.{Done}
 use Rattle.mend.specs.Steps.{table_part, list_part}
 
 module _ (input : List ℕ) {k : ℕ} (inside : k < whole_arcs input) where
   -- the fault that is found
-  pub fault_is : {f : Fault} → f ≡ fault_of (arc_at (arcs_of input) k) → f ≡ fault_at input k
+  pub fault_is : {f : Option Fault} → f ≡ fault_of (arc_at (arcs_of input) k) → f ≡ fault_at input k
   fault_is e = e ∙ ap fault_of (arcs_at input k (omega arith))
 
-  pub reason_is : {f : Fault} {n : ℕ} {r : Reason} → r ≡ reason_for f n → f ≡ fault_at input k → n ≡ new_number input k → r ≡ reason_at input k
-  reason_is {f} {n} e is new = e ∙ ap (λ (g : Fault). reason_for g n) is ∙ ap (reason_for (fault_at input k)) new
+  pub reason_is : {f : Option Fault} {n : ℕ} {r : Option Reason} → r ≡ reason_for f n → f ≡ fault_at input k → n ≡ new_number input k → r ≡ reason_at input k
+  reason_is {f} {n} e is new = e ∙ ap (λ (g : Option Fault). reason_for g n) is ∙ ap (reason_for (fault_at input k)) new
 
-  -- what goes to the table, and to the list
-  pub to_table : {r : Reason} {b : List ℕ} → r ≡ reason_at input k → b ≡ record_at input k → ◌≡◌ {A = List ℕ} (if is_lost r then [] else b) (table_part input k)
+  -- a kept arc goes to the table
+  pub kept_table : None ≡ reason_at input k → record_at input k ≡ table_part input k
   unfolding table_part
-  to_table {r} {b} e is = ap (λ (s : Reason). if is_lost s then [] else b) e ∙ ap (λ (l : List ℕ). if is_lost (reason_at input k) then [] else l) is
+  kept_table e = ap (λ (r : Option Reason). if is_some r then [] else record_at input k) e
 
-  pub to_list : {r : Reason} {n : ℕ} → r ≡ reason_at input k → n ≡ new_number input k → ◌≡◌ {A = List ℕ} (if is_lost r then change_bytes (changed k r n) else []) (list_part input k)
+  pub kept_list : None ≡ reason_at input k → [] ≡ list_part input k
   unfolding list_part
-  to_list {r} {n} e is = ap (λ (s : Reason). if is_lost s then change_bytes (changed k s n) else []) e ∙ ap (λ (m : ℕ). if is_lost (reason_at input k) then change_bytes (changed k (reason_at input k) m) else []) is
+  kept_list e = ap (λ (r : Option Reason). if is_some r then change_bytes (changed k r (new_number input k)) else []) e
+
+  -- and the loss of another to the list
+  pub lost_table : {r : Reason} → Some r ≡ reason_at input k → [] ≡ table_part input k
+  unfolding table_part
+  lost_table e = ap (λ (r : Option Reason). if is_some r then [] else record_at input k) e
+
+  pub lost_list : {r : Reason} → Some r ≡ reason_at input k → change_bytes (lost k (reason_number r)) ≡ list_part input k
+  unfolding list_part
+  lost_list e = ap (λ (r : Option Reason). if is_some r then change_bytes (changed k r (new_number input k)) else []) e
+
+  -- what the arm of a kept arc leaves, and that of a lost one
+  pub record Written (done next : Done) (table₀ table list₀ list : List ℕ) : Type 0 where
+    pub staying_same : next.staying ≡ done.staying
+    pub table_put : Puts (table_part input k) table₀ done.table table next.table
+    pub list_put : Puts (list_part input k) list₀ done.list list next.list
+
+  pub kept_written : {done next : Done} {table₀ table list₀ list out bytes : List ℕ} {n : ℕ} → None ≡ reason_at input k → bytes ≡ record_at input k
+      → Puts bytes table₀ done.table out n → next ≡ record { staying = done.staying; table = n; list = done.list } → table ≡ out → list ≡ list₀ → Written done next table₀ table list₀ list
+  kept_written {done} {list₀ = list₀} kept is put next_is table_is list_is =
+      rw (next_is, table_is, list_is) record { staying_same = refl; table_put = puts_as (is ∙ kept_table kept) put; list_put = puts_as (kept_list kept) (puts_none list₀ done.list) }
+
+  pub loss_written : {done next : Done} {table₀ table list₀ list out : List ℕ} {n : ℕ} {why : Reason} → Some why ≡ reason_at input k
+      → Puts (change_bytes (lost k (reason_number why))) list₀ done.list out n → next ≡ record { staying = done.staying; table = done.table; list = n } → table ≡ table₀ → list ≡ out
+      → Written done next table₀ table list₀ list
+  loss_written {done} {table₀ = table₀} lost put next_is table_is list_is =
+      rw (next_is, table_is, list_is) record { staying_same = refl; table_put = puts_as (lost_table lost) (puts_none table₀ done.table); list_put = puts_as (lost_list lost) put }
 
   pub table_part_short : length (table_part input k) ≤ 16
   unfolding table_part
-  table_part_short = go (is_lost (reason_at input k)) refl
+  table_part_short = go (is_some (reason_at input k)) refl
     where
-      go : (b : Bool) → is_lost (reason_at input k) ≡ b → length (if b then [] else record_at input k) ≤ 16
+      go : (b : Bool) → is_some (reason_at input k) ≡ b → length (if b then [] else record_at input k) ≤ 16
       go true e = omega arith
       go false e = omega (arith, whole_record input inside)
 
@@ -50,12 +80,15 @@ module _ (input : List ℕ) {k : ℕ} (inside : k < whole_arcs input) where
       go false = omega arith
 
 -- how many stay then
-pub staying_next : (input : List ℕ) (k : ℕ) {f : Fault} {n m : ℕ} → m ≡ (if may_stay f then n + 1 else n) → f ≡ fault_at input k → n ≡ new_number input k → m ≡ new_number input (k + 1)
-staying_next input k {f} {n} {m} e is new = e ∙ go (stays input k) refl
-  where
-    same : may_stay f ≡ stays input k
-    same = ap may_stay is
+none_stays : (f : Option Fault) → may_stay f ≡ not (is_some f)
+none_stays None = refl
+none_stays (Some Node) = refl
+none_stays (Some EqualEnds) = refl
+none_stays (Some Length) = refl
 
-    go : (b : Bool) → stays input k ≡ b → (if may_stay f then n + 1 else n) ≡ new_number input (k + 1)
-    go true t = rw (same ∙ t) (omega (arith, new_stays input k t))
-    go false t = rw (same ∙ t) (omega (arith, new_removed input k t))
+module _ (input : List ℕ) (k : ℕ) {f : Option Fault} (is : f ≡ fault_at input k) where
+  pub one_stays : is_some f ≡ false → new_number input (k + 1) ≡ new_number input k + 1
+  one_stays e = new_stays input k (ap may_stay (sym is) ∙ none_stays f ∙ ap not e)
+
+  pub none_stays_more : is_some f ≡ true → new_number input (k + 1) ≡ new_number input k
+  none_stays_more e = new_removed input k (ap may_stay (sym is) ∙ none_stays f ∙ ap not e)

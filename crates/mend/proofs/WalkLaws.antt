@@ -1,5 +1,5 @@
 -- All arcs mended, one after the other: what is left to be written, and what holds between two arcs. Assumes nothing.
-use Rattle.std.specs.Prelude.{if◌then◌else◌}
+use Rattle.std.specs.Prelude.{is_some, if◌then◌else◌}
 use Prim.Native.Nat.{ℕ, suc, ◌+◌, ◌*◌, ◌-◌, ◌≤◌, ◌<◌}
 use mathlib.Core.Bool.{Bool, true, false}
 use mathlib.Core.List.{List, [], ◌∷◌, ◌++◌, map, flat_map}
@@ -13,7 +13,7 @@ use borrow.Author.Tests.{ltb-true, ltb-false}
 use Rattle.laws.specs.Choosing.{numbers_from, keep}
 use Rattle.laws.proofs.ListLaws.{keep_first, keep_past}
 use Rattle.problem.specs.Table.{most_in_table, record_at}
-use Rattle.problem.specs.Mending.{whole_arcs, fault_at, stays, staying_below, new_number, kept_arcs, mended_table, reason_at, is_lost, is_changed, change_at, change_bytes}
+use Rattle.problem.specs.Mending.{whole_arcs, fault_at, stays, staying_below, new_number, kept_arcs, mended_table, reason_at, is_changed, change_at, change_bytes}
 use Rattle.problem.proofs.MendLaws.{new_stays, new_removed}
 use Rattle.problem.proofs.ChangeLaws.{removed_lost, kept_reason, past_reason}
 use Rattle.octets.proofs.PutLaws.{Unfinished, none_put, more_put, all_put, puts_length}
@@ -30,11 +30,11 @@ module _ (input : List ℕ) where
   pub table_from : ℕ → ℕ → List ℕ
   table_from k m = join (take (most_in_table - new_number input k) (keep (stays input) (numbers_from k m)))
 
-  part_lost : (k : ℕ) → is_lost (reason_at input k) ≡ true → table_part input k ≡ []
+  part_lost : (k : ℕ) → is_some (reason_at input k) ≡ true → table_part input k ≡ []
   unfolding table_part
   part_lost k e = rw e
 
-  part_kept : (k : ℕ) → is_lost (reason_at input k) ≡ false → table_part input k ≡ record_at input k
+  part_kept : (k : ℕ) → is_some (reason_at input k) ≡ false → table_part input k ≡ record_at input k
   unfolding table_part
   part_kept k e = rw e
 
@@ -75,7 +75,7 @@ module _ (input : List ℕ) where
           let no_more : most_in_table - (new + 1) ≡ 0 = omega arith in
           first e
           ∙ ap (λ (n : ℕ). join (take n (k ∷ rest))) none
-          ∙ sym (ap₂ (λ (x y : List ℕ). x ++ y) (part_lost k (ap is_lost (past_reason (fault_at input k) new e past))) (from_next k m (new_stays input k e) ∙ ap (λ (n : ℕ). join (take n rest)) no_more))
+          ∙ sym (ap₂ (λ (x y : List ℕ). x ++ y) (part_lost k (ap is_some (past_reason (fault_at input k) new e past))) (from_next k m (new_stays input k e) ∙ ap (λ (n : ℕ). join (take n rest)) no_more))
 
   list_next : (k m : ℕ) → list_from input k (suc m) ≡ list_part input k ++ list_from input (k + 1) m
   unfolding list_from list_part numbers_from flat_map

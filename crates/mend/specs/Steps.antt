@@ -1,8 +1,8 @@
 -- A table mended arc by arc: what each arc adds to the two outputs, what a step does, and all steps together. Assumes nothing.
-use Rattle.std.specs.Prelude.{ℕ, ◌+◌, ◌*◌, ◌≤◌, ◌<◌, ◌≡◌, length, if◌then◌else◌}
+use Rattle.std.specs.Prelude.{ℕ, ◌+◌, ◌*◌, ◌≤◌, ◌<◌, ◌≡◌, length, is_some, if◌then◌else◌}
 use mathlib.Core.List.{List, [], flat_map}
 use Rattle.problem.specs.Table.{record_at}
-use Rattle.problem.specs.Mending.{most_field_bytes, whole_arcs, new_number, mended_table, reason_at, is_lost, torn_end, is_changed, change_at, changes_from, change_bytes, rounded_up, Mends}
+use Rattle.problem.specs.Mending.{most_field_bytes, whole_arcs, new_number, mended_table, reason_at, torn_end, is_changed, change_at, changes_from, change_bytes, rounded_up, Mends}
 use Rattle.octets.specs.Puts.{Puts}
 use Rattle.mend.specs.declared.Done.{Done}
 use Rattle.mend.specs.declared.Mended.{Mended}
@@ -10,7 +10,7 @@ use Rattle.mend.specs.declared.Mended.{Mended}
 module _ (input : List ℕ) where
   -- what arc k adds to the table, and to the list
   unfoldable pub table_part : ℕ → List ℕ
-  table_part k = if is_lost (reason_at input k) then [] else record_at input k
+  table_part k = if is_some (reason_at input k) then [] else record_at input k
 
   unfoldable pub list_part : ℕ → List ℕ
   list_part k = if is_changed input k then change_bytes (change_at input k) else []

@@ -28,7 +28,8 @@ use Rattle.problem.proofs.PathLaws.{sound_heads}
 use Rattle.chain.specs.Chain.{Next}
 use Rattle.chain.proofs.ChainLaws.{sprout_next}
 use Rattle.net.specs.declared.Behind.{Behind}
-use Rattle.net.specs.Net.{first_from, lower_from, word_at, next_of, arcs_in, mesh_in, Net}
+use Rattle.net.specs.declared.Net.{Net}
+use Rattle.net.specs.Net.{first_at, lower_at, next_of, arcs_in, mesh_in, IsNet}
 use Rattle.net.specs.Search.{behind, start, onto, along, last_of, no_arc, visit, onward, searched, searched_all}
 use Rattle.net.proofs.NetLaws.{left_next}
 
@@ -71,7 +72,7 @@ module _ (arcs : List Arc) where
 
 -- ---- a search from a node
 
-module _ {S : Type 0} (net : List ℕ) (end : S → Behind → ℕ → S) (b : Behind) (at : ℕ) where
+module _ {S : Type 0} (net : Net) (end : S → Behind → ℕ → S) (b : Behind) (at : ℕ) where
   abbrev arcs : List Arc
   arcs = arcs_in net
 
@@ -104,11 +105,11 @@ module _ {S : Type 0} (net : List ℕ) (end : S → Behind → ℕ → S) (b : B
     pub inside : i ≤ length arcs
     pub here : i < length arcs → (arc_at arcs i).tail ≡ at
 
-  module _ (words : Net net) where
-    pub place_first : at ≤ last_node → Place (word_at net (first_from + at))
+  module _ (words : IsNet net) where
+    pub place_first : at ≤ last_node → Place (first_at net at)
     place_first node = let f = words.first at node in record { inside = f.to; here = f.here }
 
-    pub left_first : (s : S) → at ≤ last_node → (at ≡ terminal → ⊥) → Left (word_at net (first_from + at)) s ≡ searched (mesh_in net) end b at s
+    pub left_first : (s : S) → at ≤ last_node → (at ≡ terminal → ⊥) → Left (first_at net at) s ≡ searched (mesh_in net) end b at s
     left_first s node on =
         sym (left_start arcs terminal (visit arcs end b) (unmet 32 met) met at s on ∙ left_next arcs terminal (visit arcs end b) (unmet 32 met) met at 0 _ s (words.first at node))
 
@@ -150,7 +151,7 @@ module _ {S : Type 0} (net : List ℕ) (end : S → Behind → ℕ → S) (b : B
           ∙ ap (Left (i + 1)) f ∙ further r
 
       -- nothing that goes over the arc changes the state
-      pub left_idle : (s : S) → ((ks : List ℕ) → Way arcs (head i) terminal ks → word_at net (lower_from + head i) ≤ metres_of arcs ks → (k : ℕ) → end s (along arcs (over i) ks) k ≡ s)
+      pub left_idle : (s : S) → ((ks : List ℕ) → Way arcs (head i) terminal ks → lower_at net (head i) ≤ metres_of arcs ks → (k : ℕ) → end s (along arcs (over i) ks) k ≡ s)
           → Left i s ≡ Left (next_of net i) s
       left_idle s f = go (opens met at (arc_at arcs i)) refl
         where
@@ -175,7 +176,7 @@ module _ {S : Type 0} (net : List ℕ) (end : S → Behind → ℕ → S) (b : B
 
     -- ---- members
 
-    pub list_first : at ≤ last_node → (at ≡ terminal → ⊥) → onward (mesh_in net) b at ≡ list_from (word_at net (first_from + at))
+    pub list_first : at ≤ last_node → (at ≡ terminal → ⊥) → onward (mesh_in net) b at ≡ list_from (first_at net at)
     unfolding grow
     list_first node on = rw (ne_eqb at terminal on, grow) (sprout_next (grow arcs terminal (unmet 32 met)) met at arcs 0 _ (words.first at node))
 
@@ -207,7 +208,7 @@ module _ {S : Type 0} (net : List ℕ) (end : S → Behind → ℕ → S) (b : B
 -- ---- from the source
 
 -- what goes on from there are all paths
-pub source_paths : (net : List ℕ) → Net net → {at seen : ℕ} (metres : ℕ) (e : Exposure) → at ≡ (mesh_in net).source → seen ≡ with 0 at → onward (mesh_in net) (behind seen metres e) at ≡ paths (mesh_in net)
+pub source_paths : (net : Net) → IsNet net → {at seen : ℕ} (metres : ℕ) (e : Exposure) → at ≡ (mesh_in net).source → seen ≡ with 0 at → onward (mesh_in net) (behind seen metres e) at ≡ paths (mesh_in net)
 source_paths net words {at} {seen} metres e a s =
     same a (s ∙ ap (with 0) a) ∙ grow_source (arcs_in net) (mesh_in net).terminal (sound_heads (arcs_in net) words.sound) (mesh_in net).source words.source_node
   where
@@ -215,7 +216,7 @@ source_paths net words {at} {seen} metres e a s =
     same p q = rw (p, q)
 
 -- and what was found is found over all of them
-pub from_source : {S : Type 0} (net : List ℕ) → Net net → (end : S → Behind → ℕ → S) (s : S) {at seen : ℕ} {e : Exposure} {x : S} → at ≡ (mesh_in net).source → seen ≡ with 0 at → e ≡ to_nothing
+pub from_source : {S : Type 0} (net : Net) → IsNet net → (end : S → Behind → ℕ → S) (s : S) {at seen : ℕ} {e : Exposure} {x : S} → at ≡ (mesh_in net).source → seen ≡ with 0 at → e ≡ to_nothing
     → x ≡ searched (mesh_in net) end (behind seen 0 e) at s → x ≡ searched_all (mesh_in net) end s
 from_source {S} net words end s {at} {seen} {e} a m n h =
     h ∙ ap (foldl (visit (arcs_in net) end (behind seen 0 e)) s) (source_paths net words 0 e a m) ∙ same (m ∙ ap (with 0) a) n

@@ -1,47 +1,51 @@
-// What a search walks over, laid out in words, so that one slice is handed on from call to call; and what lies behind a search.
+// What a search walks over, a table laid out node by node and arc by arc; and what lies behind a search.
 #![tactic(auto)]
 
-ghost use Rattle.std.specs.Prelude.{◌≡◌, ◌+◌, ◌≤◌, ◌<◌, ◌^◌, length};
+ghost use Rattle.std.specs.Prelude.{◌≡◌, ◌≤◌, ◌<◌, ◌^◌, length};
 ghost use Rattle.problem.specs.Table.{last_node, most_arc_metres, most_reach};
 ghost use Rattle.problem.specs.Exposures.{of_arc};
 ghost use Rattle.problem.specs.Routes.{arc_at};
-ghost use Rattle.net.specs.Net.{first_from, lower_from, first_door_at, spanned_at, apart_at, word_at, next_of, next_in_of, arcs_in, mesh_in, Net};
+ghost use Rattle.net.specs.Net.{lower_at, first_at, next_of, next_in_of, arcs_in, mesh_in, blank_net, IsNet};
 
-use problem::Exposure;
+use problem::{Exposure, MOST_IN_TABLE, NODES};
 
-// Where the words of each kind begin: as many words as a table can have arcs for the risks, the metres, the links and the two fields of the span of an arc;
-// as many as there are nodes for each field of a node; then the number of arcs, the request, the first door, whether there are spans,
-// and whether pairs must be apart.
-// An arc's links are in one word, from the lowest byte on: its head, the next arc of its tail, its tail, the next arc of its head, and above these its span.
-pub const METRES_FROM: u64 = problem::MOST_IN_TABLE as u64;
+// An arc as a search meets it, with the arcs that come next behind it among those of its tail and among those of its head; the number of arcs ends a chain.
+// Of eight bytes, so that an arc is found by its number alone; what it is exposed to stands apart, since most arcs that are looked at are not gone over.
+#[derive(Clone, Copy)]
+pub struct Link {
+    pub metres: u32,
+    pub tail: u8,
+    pub head: u8,
+    pub next: u8,
+    pub next_in: u8,
+}
 
-const LINKS_FROM: u64 = METRES_FROM + METRES_FROM;
+// A node as a search meets it: the first of the arcs that leave it, and a length that no way from it to the terminal is shorter than.
+#[derive(Clone, Copy)]
+pub struct Stop {
+    pub first: u8,
+    pub lower: u32,
+}
 
-const LOW_FROM: u64 = LINKS_FROM + METRES_FROM;
+// A table and a request, laid out. The table's arcs are the first `count` of the links, with what they are exposed to and their spans, which no search asks for;
+// `first_door` is the first arc into the terminal; `spanned` is false only where no arc has a span; where `apart` is true, only pairs that are apart are judged.
+// It is filled in place and lent to every search: two of them do not fit a small stack. So that it hangs together is asked of a lent one (`IsNet`), and is no invariant of the type.
+#[derive(Drop)]
+pub struct Net {
+    pub links: [Link; MOST_IN_TABLE],
+    pub exposures: [Exposure; MOST_IN_TABLE],
+    pub spans: [u16; MOST_IN_TABLE],
+    pub stops: [Stop; NODES],
+    pub count: u8,
+    pub source: u8,
+    pub terminal: u8,
+    pub first_door: u8,
+    pub reach: u32,
+    pub spanned: bool,
+    pub apart: bool,
+}
 
-const HIGH_FROM: u64 = LOW_FROM + METRES_FROM;
-
-pub const FIRST_FROM: u64 = HIGH_FROM + METRES_FROM;
-
-const LOWER_FROM: u64 = FIRST_FROM + problem::NODES as u64;
-
-pub const ARC_COUNT_AT: u64 = LOWER_FROM + problem::NODES as u64;
-
-const TERMINAL_AT: u64 = ARC_COUNT_AT + 1;
-
-const REACH_AT: u64 = TERMINAL_AT + 1;
-
-const SOURCE_AT: u64 = REACH_AT + 1;
-
-const FIRST_DOOR_AT: u64 = SOURCE_AT + 1;
-
-const SPANNED_AT: u64 = FIRST_DOOR_AT + 1;
-
-const APART_AT: u64 = SPANNED_AT + 1;
-
-pub const SIZE: usize = APART_AT as usize + 1;
-
-// More than any length, and than any number of routes that is counted.
+// More than any length: a least length begins with it, and needs no test of its own.
 pub const NO_LENGTH: u64 = 1099511627776;
 
 // What lies behind a search that stands at a node: the nodes met, that one among them, the metres, and what the arcs are exposed to.
@@ -53,140 +57,158 @@ pub struct Behind {
     pub exposure: Exposure,
 }
 
-// The word at a place.
-fn word(net: &[u64], at: u64) -> u64
-    requires { at < length net.now }
-    ensures { result ≡ word_at net.now at }
-{
-    let i = at as usize;
-    net[i]
-}
-
-// The fields of what arc k is exposed to, and all of it; its metres and head.
-pub fn risks(net: &[u64], k: u64) -> u64
-    requires { Net net.now × (k < length (arcs_in net.now)) }
-    ensures { result ≡ (of_arc (arc_at (arcs_in net.now) k)).risks }
-{
-    word(net, k)
-}
-
-pub fn low(net: &[u64], k: u64) -> u64
-    requires { Net net.now × (k < length (arcs_in net.now)) }
-    ensures { result ≡ (of_arc (arc_at (arcs_in net.now) k)).low }
-{
-    word(net, LOW_FROM + k)
-}
-
-pub fn high(net: &[u64], k: u64) -> u64
-    requires { Net net.now × (k < length (arcs_in net.now)) }
-    ensures { result ≡ (of_arc (arc_at (arcs_in net.now) k)).high }
-{
-    word(net, HIGH_FROM + k)
-}
-
-pub fn exposure(net: &[u64], k: u64) -> Exposure
-    requires { Net net.now × (k < length (arcs_in net.now)) }
-    ensures { result ≡ of_arc (arc_at (arcs_in net.now) k) }
-{
-    Exposure {
-        risks: risks(net, k),
-        low: low(net, k),
-        high: high(net, k),
+impl Net {
+    // A net of no arc, to be filled in place.
+    pub fn blank() -> Net
+        ensures { result ≡ blank_net }
+    {
+        let link = Link {
+            metres: 0,
+            tail: 0,
+            head: 0,
+            next: 0,
+            next_in: 0,
+        };
+        let nothing = Exposure {
+            risks: 0,
+            low: 0,
+            high: 0,
+        };
+        let stop = Stop { first: 0, lower: 0 };
+        Net {
+            links: [link; MOST_IN_TABLE],
+            exposures: [nothing; MOST_IN_TABLE],
+            spans: [0; MOST_IN_TABLE],
+            stops: [stop; NODES],
+            count: 0,
+            source: 0,
+            terminal: 0,
+            first_door: 0,
+            reach: 0,
+            spanned: false,
+            apart: false,
+        }
     }
-}
 
-pub fn metres(net: &[u64], k: u64) -> u64
-    requires { Net net.now × (k < length (arcs_in net.now)) }
-    ensures { (result ≡ (arc_at (arcs_in net.now) k).metres) × (result ≤ most_arc_metres) }
-{
-    word(net, METRES_FROM + k)
-}
+    // What arc k is exposed to, and its risks alone.
+    pub fn exposure(&self, k: u64) -> Exposure
+        requires { IsNet self.now × (k < length (arcs_in self.now)) }
+        ensures { result ≡ of_arc (arc_at (arcs_in self.now) k) }
+    {
+        self.exposures[k as usize]
+    }
 
-pub fn head(net: &[u64], k: u64) -> u64
-    requires { Net net.now × (k < length (arcs_in net.now)) }
-    ensures { (result ≡ (arc_at (arcs_in net.now) k).head) × (result ≤ last_node) }
-{
-    word(net, LINKS_FROM + k) % 256
-}
+    pub fn risks(&self, k: u64) -> u64
+        requires { IsNet self.now × (k < length (arcs_in self.now)) }
+        ensures { result ≡ (of_arc (arc_at (arcs_in self.now) k)).risks }
+    {
+        self.exposures[k as usize].risks
+    }
 
-// The arc that comes next behind arc k in the chain of its tail, and the first of node v; the number of arcs ends a chain.
-pub fn next(net: &[u64], k: u64) -> u64
-    requires { Net net.now × (k < length (arcs_in net.now)) }
-    ensures { result ≡ next_of net.now k }
-{
-    word(net, LINKS_FROM + k) / 256 % 256
-}
+    pub fn low(&self, k: u64) -> u64
+        requires { IsNet self.now × (k < length (arcs_in self.now)) }
+        ensures { result ≡ (of_arc (arc_at (arcs_in self.now) k)).low }
+    {
+        self.exposures[k as usize].low
+    }
 
-pub fn first(net: &[u64], v: u64) -> u64
-    requires { Net net.now × (v ≤ last_node) }
-    ensures { result ≡ word_at net.now (first_from + v) }
-{
-    word(net, FIRST_FROM + v)
-}
+    pub fn high(&self, k: u64) -> u64
+        requires { IsNet self.now × (k < length (arcs_in self.now)) }
+        ensures { result ≡ (of_arc (arc_at (arcs_in self.now) k)).high }
+    {
+        self.exposures[k as usize].high
+    }
 
-pub fn arc_count(net: &[u64]) -> u64
-    requires { Net net.now }
-    ensures { result ≡ length (arcs_in net.now) }
-{
-    word(net, ARC_COUNT_AT)
-}
+    pub fn metres(&self, k: u64) -> u64
+        requires { IsNet self.now × (k < length (arcs_in self.now)) }
+        ensures { (result ≡ (arc_at (arcs_in self.now) k).metres) × (result ≤ most_arc_metres) }
+    {
+        self.links[k as usize].metres as u64
+    }
 
-// No way from v to the terminal is shorter.
-pub fn lower(net: &[u64], v: u64) -> u64
-    requires { Net net.now × (v ≤ last_node) }
-    ensures { (result ≡ word_at net.now (lower_from + v)) × (result < 2 ^ 32) }
-{
-    word(net, LOWER_FROM + v)
-}
+    pub fn head(&self, k: u64) -> u64
+        requires { IsNet self.now × (k < length (arcs_in self.now)) }
+        ensures { (result ≡ (arc_at (arcs_in self.now) k).head) × (result ≤ last_node) }
+    {
+        self.links[k as usize].head as u64
+    }
 
-pub fn terminal(net: &[u64]) -> u64
-    requires { Net net.now }
-    ensures { (result ≡ (mesh_in net.now).terminal) × (result ≤ last_node) }
-{
-    word(net, TERMINAL_AT)
-}
+    // The arc that comes next behind arc k among those of its tail, and among those of its head; and the first of node v.
+    pub fn next(&self, k: u64) -> u64
+        requires { IsNet self.now × (k < length (arcs_in self.now)) }
+        ensures { result ≡ next_of self.now k }
+    {
+        self.links[k as usize].next as u64
+    }
 
-pub fn reach(net: &[u64]) -> u64
-    requires { Net net.now }
-    ensures { (result ≡ (mesh_in net.now).reach) × (result ≤ most_reach) }
-{
-    word(net, REACH_AT)
-}
+    pub fn next_in(&self, k: u64) -> u64
+        requires { IsNet self.now × (k < length (arcs_in self.now)) }
+        ensures { result ≡ next_in_of self.now k }
+    {
+        self.links[k as usize].next_in as u64
+    }
 
-pub fn source(net: &[u64]) -> u64
-    requires { Net net.now }
-    ensures { (result ≡ (mesh_in net.now).source) × (result ≤ last_node) }
-{
-    word(net, SOURCE_AT)
-}
+    pub fn first(&self, v: u64) -> u64
+        requires { IsNet self.now × (v ≤ last_node) }
+        ensures { result ≡ first_at self.now v }
+    {
+        self.stops[v as usize].first as u64
+    }
 
-// The first arc into the terminal, a door, and the arc that comes next behind arc k among those of its head; the number of arcs comes behind the last.
-pub fn first_door(net: &[u64]) -> u64
-    requires { Net net.now }
-    ensures { result ≡ word_at net.now first_door_at }
-{
-    word(net, FIRST_DOOR_AT)
-}
+    // No way from v to the terminal is shorter.
+    pub fn lower(&self, v: u64) -> u64
+        requires { IsNet self.now × (v ≤ last_node) }
+        ensures { (result ≡ lower_at self.now v) × (result < 2 ^ 32) }
+    {
+        self.stops[v as usize].lower as u64
+    }
 
-pub fn next_in(net: &[u64], k: u64) -> u64
-    requires { Net net.now × (k < length (arcs_in net.now)) }
-    ensures { result ≡ next_in_of net.now k }
-{
-    word(net, LINKS_FROM + k) / 16777216 % 256
-}
+    // The first arc into the terminal, a door; the others come next behind it, as `next_in` says.
+    pub fn first_door(&self) -> u64
+        ensures { result ≡ self.now.first_door }
+    {
+        self.first_door as u64
+    }
 
-// Whether some arc has a span: 0 where none has.
-pub fn spanned(net: &[u64]) -> u64
-    requires { Net net.now }
-    ensures { result ≡ word_at net.now spanned_at }
-{
-    word(net, SPANNED_AT)
-}
+    // Whether some arc may have a span; false only where none has.
+    pub fn spanned(&self) -> bool
+        ensures { result ≡ self.now.spanned }
+    {
+        self.spanned
+    }
 
-// Whether only pairs that are apart are judged: 0 where every pair is.
-pub fn apart(net: &[u64]) -> u64
-    requires { Net net.now }
-    ensures { result ≡ word_at net.now apart_at }
-{
-    word(net, APART_AT)
+    // Whether only pairs that are apart are judged.
+    pub fn apart(&self) -> bool
+        ensures { result ≡ self.now.apart }
+    {
+        self.apart
+    }
+
+    pub fn arc_count(&self) -> u64
+        requires { IsNet self.now }
+        ensures { result ≡ length (arcs_in self.now) }
+    {
+        self.count as u64
+    }
+
+    pub fn source(&self) -> u64
+        requires { IsNet self.now }
+        ensures { (result ≡ (mesh_in self.now).source) × (result ≤ last_node) }
+    {
+        self.source as u64
+    }
+
+    pub fn terminal(&self) -> u64
+        requires { IsNet self.now }
+        ensures { (result ≡ (mesh_in self.now).terminal) × (result ≤ last_node) }
+    {
+        self.terminal as u64
+    }
+
+    pub fn reach(&self) -> u64
+        requires { IsNet self.now }
+        ensures { (result ≡ (mesh_in self.now).reach) × (result ≤ most_reach) }
+    {
+        self.reach as u64
+    }
 }

@@ -1,16 +1,12 @@
 -- Bytes put one after the other are the bytes put together. Assumes nothing.
-use Prim.Native.Nat.{ℕ, suc, ◌+◌, ◌≤◌, ◌<◌}
-use mathlib.Core.List.{List, [], ◌∷◌, ◌++◌, append-nil, append_assoc}
-use mathlib.Core.Path.{◌≡◌, refl, sym, ap, ap₂, ◌∙◌, subst}
+use Prim.Native.Nat.{ℕ, ◌≤◌}
+use mathlib.Core.List.{List, [], ◌++◌, append-nil, append_assoc}
+use mathlib.Core.Path.{◌≡◌, sym, ap, ap₂, ◌∙◌, subst}
 use native.Mathlib.Nat.{zero-add}
-use native.Mathlib.Numerals.{add-one}
 use native.Mathlib.Omega.{arith}
-use lib.ListN.{length, get_or, take, drop, set, length-append, length-drop, take-append-drop}
-use lib.Seq.{length-take-le, set_split, take_at, drop_at, append_snoc, drop-drop, take-length, paste, paste-zero, paste-suc, length-paste}
+use lib.ListN.{length, take, drop, length-append, length-drop, take-append-drop}
+use lib.Seq.{length-take-le, take_at, drop_at, drop-drop}
 use Rattle.octets.specs.Puts.{Puts}
-
-pub puts_one : (b : ℕ) (before : List ℕ) (at : ℕ) → at < length before → Puts (b ∷ []) before at (set before at b) (at + 1)
-puts_one b before at h = record { place = refl; holds = rw add-one (set_split before at b h ∙ sym (append_snoc (take at before) b (drop (suc at) before))) }
 
 pub puts_none : (before : List ℕ) (at : ℕ) → Puts [] before at before at
 puts_none before at = record { place = omega arith; holds = sym (take-append-drop at before) ∙ ap (λ (l : List ℕ). l ++ drop at before) (sym (append-nil (take at before))) }
@@ -59,28 +55,6 @@ puts_taken {bytes} {before} {n = n} p = ap (take n) p.holds ∙ take_at bytes (d
 pub puts_length : {bytes before : List ℕ} {at : ℕ} {after : List ℕ} {n : ℕ} → n ≤ length before → Puts bytes before at after n → length after ≡ length before
 puts_length {bytes} {before} {at} room p =
     ap length p.holds ∙ rw (length-append, length-append, length-drop, length-take-le at before (omega (arith, p.place))) (omega (arith, p.place))
-
--- ---- put byte by byte
-
--- the first i bytes are put
-pub record Begun (bytes before : List ℕ) (at : ℕ) (after : List ℕ) (i : ℕ) : Type 0 where
-  pub within : i ≤ length bytes
-  pub holds : after ≡ paste before at bytes i
-
-pub begun_none : (bytes before : List ℕ) (at : ℕ) → Begun bytes before at before 0
-begun_none bytes before at = record { within = omega arith; holds = paste-zero before at bytes }
-
-module _ {bytes before : List ℕ} {at : ℕ} {after : List ℕ} {i : ℕ} (room : at + length bytes ≤ length before) (b : Begun bytes before at after i) where
-  pub begun_more : {byte : ℕ} → i < length bytes → byte ≡ get_or bytes i 0 → Begun bytes before at (set after (at + i) byte) (i + 1)
-  begun_more h e = record { within = omega arith; holds = rw (b.holds, e, add-one) (paste-suc before at bytes i 0 (omega arith) h) }
-
-  pub begun_length : length after ≡ length before
-  begun_length = ap length b.holds ∙ length-paste before at bytes i (omega (arith, b.within)) b.within
-
-  pub begun_all : {n : ℕ} → n ≡ length bytes → n ≤ i → Puts bytes before at after (at + n)
-  begun_all {n} size h =
-      let e : i ≡ length bytes = omega (arith, b.within) in
-      record { place = ap (λ (k : ℕ). at + k) size; holds = b.holds ∙ rw (size, e, take-length) }
 
 -- ---- put part by part
 

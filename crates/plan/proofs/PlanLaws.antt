@@ -2,13 +2,13 @@
 use mathlib.Core.Path.{◌≡◌, refl, sym, ap, ◌∙◌, subst}
 use mathlib.Core.Logic.{◌⊎◌, inl, inr}
 use mathlib.Core.Bool.{Bool, true, false, ◌&&◌, false≢true}
-use mathlib.Core.List.{List}
 use Prim.Native.Nat.{ℕ, zero, suc, ◌+◌, ◌*◌, ◌-◌, ◌≤◌, ◌<◌, min}
 use native.Mathlib.Omega.{arith}
 use lib.Dec.{eqb, leb}
 use borrow.Author.Tests.{lt-ltb, ne_eqb}
 use lib.ListN.{length, get_or}
 use Rattle.std.specs.Prelude.{if◌then◌else◌}
+use Rattle.std.specs.declared.ops.ControlFlow.TheVariants.{Continue, Break}
 use Rattle.laws.specs.Sets.{with}
 use Rattle.laws.proofs.FoldLaws.{keep_all}
 use Rattle.laws.proofs.ListLaws.{get_or_mem, length_keep}
@@ -21,7 +21,8 @@ use Rattle.problem.proofs.RankingLaws.{Listed, ranking_out}
 use Rattle.problem.proofs.CandidateLaws.{best_in, best_main}
 use Rattle.keys.specs.Keys.{key_of, shared_of, total_of, no_key}
 use Rattle.keys.proofs.ChoiceLaws.{InReach, ranking_in_reach, pair_fits, key_of_shared, key_of_total, no_key_shared}
-use Rattle.net.specs.Net.{lower_from, word_at, arcs_in, mesh_in, routes_in, apart_only, judged_in, Net}
+use Rattle.net.specs.declared.Net.{Net}
+use Rattle.net.specs.Net.{arcs_in, mesh_in, routes_in, judged_in, IsNet, lower_at}
 use Rattle.bars.proofs.BarsLaws.{net_regular}
 use Rattle.tally.specs.declared.Tally.{Tally}
 use Rattle.mains.specs.Mains.{no_tally, best_key, Stepped}
@@ -34,11 +35,10 @@ use Rattle.sweep.proofs.StepLaws.{stepped_window, stepped_cap, stepped_stopped, 
 use Rattle.plan.specs.declared.Run.{Run}
 use Rattle.plan.specs.declared.Run.TheVariants.{ByLength, AllRanked, AtAllowance}
 use Rattle.plan.specs.declared.Next.{Next}
-use Rattle.plan.specs.declared.Turn.TheVariants.{GoOn, Stop}
 use Rattle.plan.specs.Plan.{met_by, not_over, ended_at, Planning, Ended, Turning, Turned}
 
 -- between turns: the tally is that of all routes shorter than `cur`, and it is not met
-pub record Going (net : List ℕ) (allowance low : ℕ) (t : Tally) (cur width : ℕ) : Type 0 where
+pub record Going (net : Net) (allowance low : ℕ) (t : Tally) (cur width : ℕ) : Type 0 where
   pub tally_is : Stepped (judged_in net) (routes_in net) (count (shorter cur) (routes_in net)) t
   pub allowed : t.ranked ≤ allowance
   pub not_met : met_by t low ≡ false
@@ -51,7 +51,7 @@ met_is : (t : Tally) {f shared total low metres : ℕ} → shared_of t.best ≡ 
 unfolding met_by
 met_is t n m e l = rw (n, m, e, l)
 
-module _ (net : List ℕ) (words : Net net) where
+module _ (net : Net) (words : IsNet net) where
   pub in_reach : InReach (routes_in net)
   in_reach = ranking_in_reach (mesh_in net) words.reach_range
 
@@ -124,7 +124,7 @@ module _ (net : List ℕ) (words : Net net) where
     -- ---- one window
 
     module _ {t : Tally} {cur width : ℕ} (turning : Turning net allowance t cur width) (hi cap : ℕ) (hi_is : hi ≡ min (cur + width) (mesh_in net).reach) (low_cap : t.ranked ≤ cap) (cap_range : cap ≤ allowance)
-        (r : Swept) (swept : SweptAll (apart_only net) (mesh_in net) (record { lo = cur; hi = hi; cap = cap }) t r) where
+        (r : Swept) (swept : SweptAll net.apart (mesh_in net) (record { lo = cur; hi = hi; cap = cap }) t r) where
       abbrev window : Window
       window = record { lo = cur; hi = hi; cap = cap }
 
@@ -137,9 +137,9 @@ module _ (net : List ℕ) (words : Net net) where
       -- one that did not give up is that of all routes up to its end, and so of all shorter than what was cut off
       pub window_further : r.tally.over ≡ false → Stepped (judged_in net) (routes_in net) (count (shorter r.cut) (routes_in net)) r.tally × (r.tally.ranked ≤ allowance)
       window_further o =
-          let s = stepped_window (apart_only net) (mesh_in net) (net_regular net words) words.reach_range window wide near t r.tally turning.tally_is swept.tally_is o in
+          let s = stepped_window net.apart (mesh_in net) (net_regular net words) words.reach_range window wide near t r.tally turning.tally_is swept.tally_is o in
           let c = cut_count (mesh_in net) hi r.cut (swept.none_between o) swept.cut_past in
-          let most = stepped_cap (apart_only net) (mesh_in net) (net_regular net words) words.reach_range window wide near t r.tally turning.tally_is swept.tally_is low_cap o in
+          let most = stepped_cap net.apart (mesh_in net) (net_regular net words) words.reach_range window wide near t r.tally turning.tally_is swept.tally_is low_cap o in
           (subst (λ (j : ℕ). Stepped (judged_in net) (routes_in net) j r.tally) (sym c) s, omega (arith, s.ranked_is))
 
       pub cut_further : cur < r.cut
@@ -148,14 +148,14 @@ module _ (net : List ℕ) (words : Net net) where
       -- one that gave up within a single length is that of the allowance's last step
       pub window_stopped : r.tally.over ≡ true → hi ≡ cur → cap ≡ allowance → Stepped (judged_in net) (routes_in net) allowance (not_over r.tally) × (allowance < length (routes_in net))
       window_stopped o one full =
-          let s = stepped_stopped (apart_only net) (mesh_in net) (net_regular net words) words.reach_range window wide near t r.tally turning.tally_is swept.tally_is one low_cap o in
-          let more = over_some (apart_only net) (mesh_in net) (net_regular net words) words.reach_range window wide near t r.tally turning.tally_is swept.tally_is o in
+          let s = stepped_stopped net.apart (mesh_in net) (net_regular net words) words.reach_range window wide near t r.tally turning.tally_is swept.tally_is one low_cap o in
+          let more = over_some net.apart (mesh_in net) (net_regular net words) words.reach_range window wide near t r.tally turning.tally_is swept.tally_is o in
           (subst (λ (j : ℕ). Stepped (judged_in net) (routes_in net) j (not_over r.tally)) full s, omega (arith, length_keep (within hi) (routes_in net)))
 
     -- ---- the loop
 
     -- no route is shorter than the source's lower bound
-    pub going_first : (t : Tally) (cur width : ℕ) → t ≡ no_tally → cur ≡ word_at net (lower_from + (mesh_in net).source) → width ≤ most_reach → Going net allowance low t cur width
+    pub going_first : (t : Tally) (cur width : ℕ) → t ≡ no_tally → cur ≡ lower_at net (mesh_in net).source → width ≤ most_reach → Going net allowance low t cur width
     going_first t cur width e f h =
         let none = cut_none (mesh_in net) cur
         (λ ks x. omega (arith, words.lower (mesh_in net).source words.source_node (grow_way (arcs_in net) (mesh_in net).terminal most_arcs (with 0 (mesh_in net).source) (mesh_in net).source x)))
@@ -175,7 +175,7 @@ module _ (net : List ℕ) (words : Net net) where
     going_turning g h = record { tally_is = g.tally_is; allowed = g.allowed; cur_range = h; width_range = g.width_range }
 
     -- a turn that goes on gets further, or tries the same again with less
-    pub going_on : {t : Tally} {cur width : ℕ} → Going net allowance low t cur width → {n : Next} → Turned net allowance low t cur width (GoOn n)
+    pub going_on : {t : Tally} {cur width : ℕ} → Going net allowance low t cur width → {n : Next} → Turned net allowance low t cur width (Continue n)
         → Going net allowance low n.tally n.cur n.width × ((cur < n.cur) ⊎ ((n.cur ≡ cur) × (n.width < width)))
     going_on g (Turned.further s a e p q) = (record { tally_is = s; allowed = a; not_met = e; width_range = q }, inl p)
     going_on {t} {cur} g {n} (Turned.again e p q) = (same e p, inr (p, q))
@@ -183,7 +183,7 @@ module _ (net : List ℕ) (words : Net net) where
         same : n.tally ≡ t → n.cur ≡ cur → Going net allowance low n.tally n.cur n.width
         same x y = rw (x, y) (record { tally_is = g.tally_is; allowed = g.allowed; not_met = g.not_met; width_range = omega (arith, g.width_range) })
 
-    pub stopped_ended : {t : Tally} {cur width : ℕ} {r : Run} → Turned net allowance low t cur width (Stop r) → Ended net allowance r
+    pub stopped_ended : {t : Tally} {cur width : ℕ} {r : Run} → Turned net allowance low t cur width (Break r) → Ended net allowance r
     stopped_ended (Turned.stopped e) = e
 
     -- past the reach all routes are ranked

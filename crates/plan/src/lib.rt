@@ -3,12 +3,14 @@
 
 ghost use Rattle.std.specs.Prelude.{◌≡◌, ◌≤◌};
 ghost use Rattle.problem.specs.Table.{most_reach, most_allowance};
-ghost use Rattle.net.specs.Net.{Net};
+ghost use Rattle.net.specs.Net.{IsNet};
 ghost use Rattle.cores.specs.Cores.{Stored};
-ghost use Rattle.mains.specs.Mains.{no_tally};
 ghost use Rattle.plan.specs.Plan.{met_by, ended_at, Turning, Turned, Planning, Ended};
 
-use sweep::Window;
+use cores::Store;
+use net::Net;
+use std::ops::ControlFlow;
+use sweep::{Swept, Window};
 use tally::Tally;
 
 // How planning ends, and the tally then: settled by length; with all routes ranked; or at the allowance.
@@ -27,35 +29,22 @@ struct Next {
     width: u64,
 }
 
-// What one turn of the loop comes to.
-#[derive(Clone, Copy)]
-enum Turn {
-    GoOn(Next),
-    Stop(Run),
-}
-
 const WIDEST: u64 = problem::MOST_REACH as u64;
 
-fn no_tally() -> Tally
-    ensures { result ≡ no_tally }
-{
-    Tally {
-        ranked: 0,
-        last: 0,
-        best: keys::NO_KEY,
-        over: false,
-    }
-}
+// The tally before any main.
+const START: Tally = Tally {
+    ranked: 0,
+    last: 0,
+    best: keys::NO_KEY,
+    over: false,
+};
 
 // The length test.
 fn is_met(t: Tally, floor: u64) -> bool
     requires { t.last ≤ most_reach }
     ensures { result ≡ met_by t floor }
 {
-    if keys::shared_of(t.best) != floor {
-        return false;
-    }
-    keys::total_of(t.best) <= 2 * t.last
+    keys::shared_of(t.best) == floor && keys::total_of(t.best) <= 2 * t.last
 }
 
 // The cap of a window. A wide one gives up early, since what it found is thrown away; one of a single length goes on to the allowance.
@@ -66,7 +55,7 @@ fn cap_for(ranked: u64, allowance: u64, width: u64) -> u64
     if width == 0 {
         return allowance;
     }
-    laws::smaller(allowance, aim::many_more(ranked))
+    allowance.min(aim::many_more(ranked))
 }
 
 // How wide the next window is to be, once one has taken the routes ranked from `before` to `ranked`. Each window walks again over what is
@@ -94,93 +83,80 @@ fn ended_at(u: Tally, floor: u64) -> Run
     requires { u.last ≤ most_reach }
     ensures { result ≡ ended_at u floor }
 {
-    let t = Tally {
-        ranked: u.ranked,
-        last: u.last,
-        best: u.best,
-        over: false,
-    };
+    let t = Tally { over: false, ..u };
     if is_met(t, floor) {
         return Run::ByLength(t);
     }
     Run::AtAllowance(t)
 }
 
-// A turn after which planning goes on from `cur`.
-fn go_on(t: Tally, cur: u64, width: u64) -> Turn
-    ensures { result ≡ Turn.GoOn (record { tally = t; cur = cur; width = width }) }
-{
-    let next = Next {
-        tally: t,
-        cur: cur,
-        width: width,
-    };
-    Turn::GoOn(next)
-}
-
 // One window, and what it says of how to go on.
 fn try_window(
-    net: &[u64; net::SIZE],
-    store: &mut [u64; cores::OWN_WORDS],
+    net: &Net,
+    store: &mut Store,
     allowance: u64,
     floor: u64,
-    t: Tally,
-    cur: u64,
-    width: u64,
-) -> Turn
-    requires { Net net.now × Planning net.now allowance floor × Turning net.now allowance t cur width × Stored net.now store.old }
-    ensures turned { Turned net.now allowance floor t cur width result }
+    now: Next,
+) -> ControlFlow<Run, Next>
+    requires { IsNet net.now × Planning net.now allowance floor × Turning net.now allowance now.tally now.cur now.width × Stored net.now store.old }
+    ensures turned { Turned net.now allowance floor now.tally now.cur now.width result }
     ensures stored { Stored net.now store.new }
 {
-    let hi = laws::smaller(cur + width, net::reach(net));
-    let cap = cap_for(t.ranked, allowance, hi - cur);
+    let hi = net.reach().min(now.cur + now.width);
     let w = Window {
-        lo: cur,
-        hi: hi,
-        cap: cap,
+        lo: now.cur,
+        hi,
+        cap: cap_for(now.tally.ranked, allowance, hi - now.cur),
     };
-    let r = sweep::sweep(net, store, w, t);
-    let u = r.tally;
-    if !u.over {
-        if is_met(u, floor) {
-            return Turn::Stop(Run::ByLength(u));
+    let Swept { tally, cut } = sweep::sweep(net, store, w, now.tally);
+    if tally.over {
+        if hi == now.cur {
+            return ControlFlow::Break(ended_at(tally, floor));
         }
-        return go_on(u, r.cut, wider(width, t.ranked, u.ranked));
+        return ControlFlow::Continue(Next {
+            width: (hi - now.cur) / 2,
+            ..now
+        });
     }
-    if hi == cur {
-        return Turn::Stop(ended_at(u, floor));
+    if is_met(tally, floor) {
+        return ControlFlow::Break(Run::ByLength(tally));
     }
-    go_on(t, cur, (hi - cur) / 2)
+    ControlFlow::Continue(Next {
+        tally,
+        cur: cut,
+        width: wider(now.width, now.tally.ranked, tally.ranked),
+    })
 }
 
 // Windows one after the other, from the shortest length on.
-pub fn plan(
-    net: &[u64; net::SIZE],
-    store: &mut [u64; cores::OWN_WORDS],
-    allowance: u64,
-    floor: u64,
-) -> Run
-    requires { Net net.now × Planning net.now allowance floor × Stored net.now store.old }
+pub fn plan(net: &Net, store: &mut Store, allowance: u64, floor: u64) -> Run
+    requires { IsNet net.now × Planning net.now allowance floor × Stored net.now store.old }
     ensures ended { Ended net.now allowance result }
     ensures stored { Stored net.now store.new }
 {
-    let reach = net::reach(net);
-    let mut t = no_tally();
-    let mut cur = net::lower(net, net::source(net));
-    let width = laws::smaller(cur / 8, WIDEST);
-    // Aimed at in two places, an aim is called and not built in: its array of counts is off the stack when the pair's routes are looked for.
-    let mut a = aim::take_aim(net, allowance, t.ranked, cur, width, net::NO_LENGTH);
-    while cur <= reach {
-        match try_window(net, store, allowance, floor, t, cur, a.width) {
-            Turn::Stop(run) => {
+    let reach = net.reach();
+    let shortest = net.lower(net.source());
+    let mut next = Next {
+        tally: START,
+        cur: shortest,
+        width: WIDEST.min(shortest / 8),
+    };
+    let mut end = None;
+    while next.cur <= reach {
+        let aim = aim::take_aim(net, allowance, next.tally.ranked, next.cur, next.width, end);
+        end = aim.end;
+        let aimed = Next {
+            width: aim.width,
+            ..next
+        };
+        match try_window(net, store, allowance, floor, aimed) {
+            ControlFlow::Break(run) => {
                 return run;
             }
-            Turn::GoOn(next) => {
-                t = next.tally;
-                cur = next.cur;
-                a = aim::take_aim(net, allowance, t.ranked, cur, next.width, a.end);
+            ControlFlow::Continue(on) => {
+                next = on;
             }
         }
     }
-    Run::AllRanked(t)
+    Run::AllRanked(next.tally)
 }

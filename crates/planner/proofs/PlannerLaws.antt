@@ -1,15 +1,17 @@
 -- From the words that a call is read into to what planning promises; and whether there is a route, by the source's shortest way. Assumes nothing.
 use mathlib.Core.Path.{◌≡◌, refl, sym, ap, ap₂, ◌∙◌, subst}
 use mathlib.Core.Logic.{◌⊎◌, inl, inr}
-use mathlib.Core.Bool.{Bool, true, false, true≢false, false≢true}
+use mathlib.Core.Bool.{Bool, true, false}
 use mathlib.Core.List.{List, [], ◌∷◌, Memᴰ}
 use Prim.Native.Nat.{ℕ, ◌-◌, ◌%◌, ◌≤◌, ◌<◌}
 use native.Mathlib.Nat.{zero-add}
 use native.Mathlib.Omega.{arith}
 use lib.ListN.{length, take, drop}
 use lib.Seq.{take_at}
+use Rattle.std.specs.Prelude.{Option, Some, None, Result, Ok, Err}
 use Rattle.problem.specs.declared.Arc.{Arc}
 use Rattle.problem.specs.declared.Exposure.{Exposure}
+use Rattle.problem.specs.declared.Refusal.{Refusal}
 use Rattle.problem.specs.declared.Request.{Request}
 use Rattle.problem.specs.Table.{most_table_bytes, most_allowance, arcs_of, over, all_sound}
 use Rattle.problem.specs.Exposures.{to_nothing, size}
@@ -33,31 +35,28 @@ use Rattle.closed.proofs.TurnedLaws.{turned_sound, turned_span, ranking_turned, 
 use Rattle.side.specs.declared.Distance.{Distance}
 use Rattle.side.specs.Side.{SideTable, reached_at, metres_at}
 use Rattle.floor.proofs.ClearLaws.{way_free}
-use Rattle.net.specs.Net.{mesh_in, to_be, apart_only, judged_in}
+use Rattle.net.specs.declared.Net.{Net}
+use Rattle.net.specs.Net.{mesh_in, judged_in}
 use Rattle.layout.specs.Layout.{LaidOut}
 use Rattle.plan.specs.Plan.{Planning}
 use Rattle.choose.specs.declared.Choice.{Choice}
-use Rattle.choose.specs.Choose.{Chosen}
+use Rattle.choose.specs.Choose.{PairChosen}
 use Rattle.spans.specs.Marks.{NoSpan, marked_table}
 use Rattle.spans.proofs.MarkLaws.{table_length, marked_arcs_lem}
-use Rattle.planner.specs.declared.Ready.{Ready}
 use Rattle.planner.specs.declared.Made.{Made}
-use Rattle.planner.specs.Planner.{Laid, Reads, PairMade, Planned, PlannedOver}
+use Rattle.planner.specs.Planner.{Laid, Reads, NoneMade, Planned, PlannedOver}
 
 -- what is chosen by one test is chosen by another that says the same of every pair of routes
 chosen_same : (ok ok' : Pair → Bool) (routes : List Route) → ((r s : Route) → Memᴰ r routes → Memᴰ s routes → ok (pair r s) ≡ ok' (pair r s)) → {allowance : ℕ} {c : Choice}
-    → Chosen ok routes allowance c → Chosen ok' routes allowance c
-chosen_same ok ok' routes same {allowance} {c} o =
+    → PairChosen ok routes allowance c → PairChosen ok' routes allowance c
+chosen_same ok ok' routes same {allowance} p =
     record {
-      main_fit = o.main_fit;
-      standby_fit = o.standby_fit;
-      some = λ e. let p = o.some (same_some ok ok' routes same allowance ∙ e) in
-          record {
-            verdict_is = p.verdict_is ∙ same_verdict ok ok' routes same allowance;
-            ranked_is = p.ranked_is ∙ same_ranked ok ok' routes same allowance;
-            pair_is = p.pair_is ∙ same_best ok ok' routes same (ranked ok routes allowance) ∙ ap (best ok' routes) (same_ranked ok ok' routes same allowance);
-          };
-      none = λ e. o.none (same_some ok ok' routes same allowance ∙ e);
+      some = sym (same_some ok ok' routes same allowance) ∙ p.some;
+      verdict_is = p.verdict_is ∙ same_verdict ok ok' routes same allowance;
+      ranked_is = p.ranked_is ∙ same_ranked ok ok' routes same allowance;
+      pair_is = p.pair_is ∙ same_best ok ok' routes same (ranked ok routes allowance) ∙ ap (best ok' routes) (same_ranked ok ok' routes same allowance);
+      main_fit = p.main_fit;
+      standby_fit = p.standby_fit;
     }
 
 module _ {table : List ℕ} {q : Request} (checked : Checked table q) where
@@ -70,12 +69,15 @@ module _ {table : List ℕ} {q : Request} (checked : Checked table q) where
   unfolding floor
   floor_counted e f = f ∙ ap size e
 
-  pub read_some : {side : List Distance} {apart : ℕ} {net : List ℕ} → LaidOut (mesh_over (arcs_of table) q) side apart net → 0 < length routes → {low : ℕ} → low ≡ floor routes
-      → Reads (to_be apart) (mesh_over (arcs_of table) q) net (record { found = true; floor = low })
+  pub read_some : {side : List Distance} {apart : Bool} {net : Net} → LaidOut (mesh_over (arcs_of table) q) side apart net → 0 < length routes → {low : ℕ}
+      → low ≡ floor routes → Laid apart (mesh_over (arcs_of table) q) net low
   read_some l some e =
       record {
-        none = λ f. absurd (true≢false f);
-        some = λ f. record { words = l.words; routes_are = ap ranking l.mesh_is; judged_are = λ r s x y. ap₂ (λ (m : Mesh) (a : ℕ). judges m (to_be a) (pair r s)) l.mesh_is l.apart_is; some_route = some; floor_is = e };
+        words = l.laid;
+        routes_are = ap ranking l.mesh_is;
+        judged_are = λ r s x y. ap₂ (λ (m : Mesh) (only : Bool). judges m only (pair r s)) l.mesh_is l.apart_is;
+        some_route = some;
+        floor_is = e;
       }
 
   -- ---- whether there is a route
@@ -85,8 +87,8 @@ module _ {table : List ℕ} {q : Request} (checked : Checked table q) where
     abbrev Far : Type 0
     Far = (reached_at side q.source ≡ false) ⊎ (q.reach < metres_at side q.source)
 
-    pub read_none : {only : Bool} {r : Ready} {net : List ℕ} → r.found ≡ false → Far → Reads only (mesh_over (arcs_of table) q) net r
-    read_none f far = record { none = λ g. go routes (λ r x. out (ranking_out (mesh_over (arcs_of table) q) x) far); some = λ g. absurd (false≢true (sym f ∙ g)) }
+    pub read_none : Far → routes ≡ []
+    read_none far = go routes (λ r x. out (ranking_out (mesh_over (arcs_of table) q) x) far)
       where
         out : {r : Route} → Listed (mesh_over (arcs_of table) q) r → Far → ⊥
         out o (inl e) = s.none q.source e o.list (way_free (arcs_of table) q.terminal o.route.path.way)
@@ -109,42 +111,34 @@ module _ {table : List ℕ} {q : Request} (checked : Checked table q) where
 
 -- ---- a net planned over
 
-module _ {only : Bool} {m : Mesh} {net : List ℕ} {low : ℕ} (l : Laid only m net low) where
+module _ {only : Bool} {m : Mesh} {net : Net} {low : ℕ} (l : Laid only m net low) where
   -- the words' own routes and pairs are those that they say
-  pub laid_own : Laid (apart_only net) (mesh_in net) net low
+  pub laid_own : Laid net.apart (mesh_in net) net low
   laid_own = record { words = l.words; routes_are = refl; judged_are = λ r s x y. refl; some_route = rw (← l.routes_are) at l.some_route; floor_is = rw (← l.routes_are) at l.floor_is }
 
   pub laid_planning : {allowance : ℕ} → 0 < allowance → allowance ≤ most_allowance → Planning net allowance low
   laid_planning some few = record { some_route = laid_own.some_route; some_allowance = some; few = few; floor_is = laid_own.floor_is }
 
   -- so what is planned over the words is planned over the mesh
-  planned_over : {allowance : ℕ} {p : Made} → PlannedOver (apart_only net) (mesh_in net) allowance p → PlannedOver only m allowance p
-  planned_over {allowance} {p} made = record { none = λ e. sym l.routes_are ∙ made.none e; some = λ e. over (subst (λ (routes : List Route). PairMade (judged_in net) routes allowance p) l.routes_are (made.some e)) }
+  pub planned_over : (allowance : ℕ) (p : Result Made Refusal) → PlannedOver net.apart (mesh_in net) allowance p → PlannedOver only m allowance p
+  planned_over allowance p made = over p (subst (λ (routes : List Route). Planned (judged_in net) routes allowance p) l.routes_are made)
     where
-      over : PairMade (judged_in net) (ranking m) allowance p → PairMade (judges m only) (ranking m) allowance p
-      over o = record { some_route = o.some_route; floor_is = o.floor_is; chosen = chosen_same (judged_in net) (judges m only) (ranking m) l.judged_are o.chosen }
-
-pub made_planned : {ok : Pair → Bool} {routes : List Route} {allowance low : ℕ} → 0 < length routes → low ≡ floor routes → {c : Choice} → Chosen ok routes allowance c
-    → Planned ok routes allowance (record { found = true; floor = low; choice = c })
-made_planned some e h = record { none = λ f. absurd (true≢false f); some = λ f. record { some_route = some; floor_is = e; chosen = h } }
-
-module _ {only : Bool} {m : Mesh} {net : List ℕ} {r : Ready} (read : Reads only m net r) {allowance : ℕ} {p : Made} where
-  -- nothing is found where there is no route
-  pub none_planned : r.found ≡ false → p.found ≡ false → PlannedOver only m allowance p
-  none_planned e f = record { none = λ g. read.none e; some = λ g. absurd (false≢true (sym f ∙ g)) }
-
-  pub some_planned : r.found ≡ true → PlannedOver (apart_only net) (mesh_in net) allowance p → PlannedOver only m allowance p
-  some_planned e o = planned_over (read.some e) o
+      over : (p : Result Made Refusal) → Planned (judged_in net) (ranking m) allowance p → PlannedOver only m allowance p
+      over (Ok made) o = record { some_route = o.some_route; floor_is = o.floor_is; chosen = chosen_same (judged_in net) (judges m only) (ranking m) l.judged_are o.chosen }
+      over (Err r) (NoneMade.no_route none) = NoneMade.no_route none
+      over (Err r) (NoneMade.no_pair some o) =
+          NoneMade.no_pair some (record { none = sym (same_some (judged_in net) (judges m only) (ranking m) l.judged_are allowance) ∙ o.none; number_is = o.number_is })
 
 -- ---- the arcs that a call is planned over
 
 -- the same arcs, the same routes
-reads_over : (q : Request) {only : Bool} {arcs more : List Arc} {net : List ℕ} {r : Ready} → arcs ≡ more → Reads only (mesh_over arcs q) net r → Reads only (mesh_over more q) net r
-reads_over q {only} {net = net} {r} e p = subst (λ (l : List Arc). Reads only (mesh_over l q) net r) e p
+reads_over : (q : Request) (only : Bool) (net : Net) (r : Option ℕ) {arcs more : List Arc} → arcs ≡ more → Reads only (mesh_over arcs q) net r → Reads only (mesh_over more q) net r
+reads_over q only net r e p = subst (λ (l : List Arc). Reads only (mesh_over l q) net r) e p
 
 -- where no arc has a span, they are those of the table
-pub reads_unspanned : (table : List ℕ) (q : Request) {only : Bool} {net : List ℕ} {r : Ready} → NoSpan (arcs_of table) → Reads only (mesh_over (arcs_of table) q) net r → Reads only (mesh_over (marked_arcs table) q) net r
-reads_unspanned table q none p = reads_over q (sym (unspanned_same (arcs_of table) none)) p
+pub reads_unspanned : (table : List ℕ) (q : Request) (only : Bool) (net : Net) (r : Option ℕ) → NoSpan (arcs_of table) → Reads only (mesh_over (arcs_of table) q) net r
+    → Reads only (mesh_over (marked_arcs table) q) net r
+reads_unspanned table q only net r none p = reads_over q only net r (sym (unspanned_same (arcs_of table) none)) p
 
 -- else those of the table written anew, which passes the checks as well
 module _ {table : List ℕ} {q : Request} (checked : Checked table q) where
@@ -168,8 +162,8 @@ module _ {table : List ℕ} {q : Request} (checked : Checked table q) where
   pub checked_marked : Checked (marked_table table) q
   checked_marked = checked_as marked_size (ap all_sound (marked_arcs_lem table checked.few_bytes) ∙ marked_sound (arcs_of table) checked.sound)
 
-  pub reads_marked : {only : Bool} {net : List ℕ} {r : Ready} → Reads only (mesh_over (arcs_of (marked_table table)) q) net r → Reads only (mesh_over (marked_arcs table) q) net r
-  reads_marked p = reads_over q (marked_arcs_lem table checked.few_bytes) p
+  pub reads_marked : (only : Bool) (net : Net) (r : Option ℕ) → Reads only (mesh_over (arcs_of (marked_table table)) q) net r → Reads only (mesh_over (marked_arcs table) q) net r
+  reads_marked only net r p = reads_over q only net r (marked_arcs_lem table checked.few_bytes) p
 
   -- its bytes, as the part of the buffer that was written
   pub part_marked : (buffer : List ℕ) → take (length table - 0) (drop 0 (over (marked_table table) buffer)) ≡ marked_table table
@@ -207,8 +201,8 @@ module _ {table : List ℕ} {q : Request} (checked : Checked table q) (closed : 
       ap (λ (arcs : List Arc). (arc_at arcs k).span) says ∙ turned_span closed q.terminal q.source (marked_arcs table) k ∙ ap (λ (a : Arc). a.span) (marked_at (arcs_of table) k)
       ∙ ap (mark (arcs_of table)) (none k (omega (arith, h, arcs_length part, arcs_length table, size))) ∙ mark_unknown (arcs_of table)
 
-  pub reads_turned : {only : Bool} {net : List ℕ} {r : Ready} → Reads only (mesh_over (arcs_of part) q) net r → Reads only (mesh_over (shut_in closed (marked_arcs table)) q) net r
-  reads_turned {only} {net} {r} p = go (reads_over q says p)
+  pub reads_turned : (only : Bool) (net : Net) (r : Option ℕ) → Reads only (mesh_over (arcs_of part) q) net r → Reads only (mesh_over (shut_in closed (marked_arcs table)) q) net r
+  reads_turned only net r p = go r (reads_over q only net r says p)
     where
       heads : LowHeads (marked_arcs table)
       heads = sound_heads (marked_arcs table) marked_is_sound
@@ -216,7 +210,7 @@ module _ {table : List ℕ} {q : Request} (checked : Checked table q) (closed : 
       same : ranking (mesh_over (turned_in closed q.terminal q.source (marked_arcs table)) q) ≡ ranking (mesh_over (shut_in closed (marked_arcs table)) q)
       same = ranking_turned closed q.source (marked_arcs table) q heads checked.source_node
 
-      laid : Laid only (mesh_over (turned_in closed q.terminal q.source (marked_arcs table)) q) net r.floor → Laid only (mesh_over (shut_in closed (marked_arcs table)) q) net r.floor
+      laid : {low : ℕ} → Laid only (mesh_over (turned_in closed q.terminal q.source (marked_arcs table)) q) net low → Laid only (mesh_over (shut_in closed (marked_arcs table)) q) net low
       laid l = record {
         words = l.words;
         routes_are = l.routes_are ∙ same;
@@ -227,17 +221,14 @@ module _ {table : List ℕ} {q : Request} (checked : Checked table q) (closed : 
         floor_is = l.floor_is ∙ ap floor same;
       }
 
-      go : Reads only (mesh_over (turned_in closed q.terminal q.source (marked_arcs table)) q) net r → Reads only (mesh_over (shut_in closed (marked_arcs table)) q) net r
-      go o = record { none = λ e. sym same ∙ o.none e; some = λ e. laid (o.some e) }
+      go : (r : Option ℕ) → Reads only (mesh_over (turned_in closed q.terminal q.source (marked_arcs table)) q) net r → Reads only (mesh_over (shut_in closed (marked_arcs table)) q) net r
+      go (Some low) l = laid l
+      go None none = sym same ∙ none
 
 -- where nothing is closed they stay as they are
-open_same : (table : List ℕ) {closed : ℕ} → closed ≡ 0 → shut_in closed (marked_arcs table) ≡ marked_arcs table
+pub open_same : (table : List ℕ) {closed : ℕ} → closed ≡ 0 → shut_in closed (marked_arcs table) ≡ marked_arcs table
 open_same table none = ap (λ (set : ℕ). shut_in set (marked_arcs table)) none ∙ closed_none shut 0 (marked_arcs table)
 
-pub reads_open : (table : List ℕ) (q : Request) {only : Bool} {closed : ℕ} {net : List ℕ} {r : Ready} → closed ≡ 0 → Reads only (mesh_over (marked_arcs table) q) net r
+pub reads_open : (table : List ℕ) (q : Request) (only : Bool) (net : Net) (r : Option ℕ) {closed : ℕ} → closed ≡ 0 → Reads only (mesh_over (marked_arcs table) q) net r
     → Reads only (mesh_over (shut_in closed (marked_arcs table)) q) net r
-reads_open table q none p = reads_over q (sym (open_same table none)) p
-
-pub open_reads : (table : List ℕ) (q : Request) {only : Bool} {closed : ℕ} {net : List ℕ} {r : Ready} → closed ≡ 0 → Reads only (mesh_over (shut_in closed (marked_arcs table)) q) net r
-    → Reads only (mesh_over (marked_arcs table) q) net r
-open_reads table q none p = reads_over q (open_same table none) p
+reads_open table q only net r none p = reads_over q only net r (sym (open_same table none)) p

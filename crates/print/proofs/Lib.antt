@@ -1,3 +1,2 @@
-pub mod PartLaws
 pub mod FieldLaws
 pub mod LineLaws

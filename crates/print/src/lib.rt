@@ -12,10 +12,11 @@ ghost use Rattle.print.specs.Print.{print_room, verdict_line};
 pub const ROOM: usize = 480;
 
 // Metres as kilometres, rounded up.
+#[tactic(auto, unfolding(problem::specs::Printed::kilometres))]
 pub fn kilometres(metres: u32) -> u32
     ensures { result ≡ kilometres metres }
 {
-    ((metres as u64 + 999) / 1000) as u32
+    metres.div_ceil(1000)
 }
 
 // The first `count` bytes from a place on, or as many as there are.
@@ -24,15 +25,11 @@ fn part(bytes: &[u8], from: usize, count: u8) -> &[u8]
     ensures result_value { result.now ≡ take count (drop from bytes.now) }
     ensures result_in_bounds { length result.now ≤ length bytes.now - from }
 {
-    let n = count as usize;
-    if n < bytes.len() - from {
-        let end = from + n;
-        return &bytes[from..end];
-    }
-    &bytes[from..]
+    let rest = &bytes[from..];
+    &rest[..rest.len().min(count as usize)]
 }
 
-// A number in decimal.
+// A number in decimal. Digit by digit: `write!` says what it has written where it returns Ok, and not that a buffer of this size is room enough for it to.
 fn decimal(out: &mut [u8], at: usize, x: u32) -> usize
     requires { at + 10 ≤ length out.old }
     ensures { Puts (digits 10 x) out.old at out.new result }
@@ -61,10 +58,8 @@ fn numbers(out: &mut [u8], at: usize, bytes: &[u8]) -> usize
     ensures upper_bound { result ≤ at + 4 * length bytes.now + 1 }
 {
     let mut next = at;
-    let mut i = 0;
-    while i < bytes.len() {
-        next = field(out, next, octets::wide(bytes[i]));
-        i += 1;
+    for byte in bytes {
+        next = field(out, next, u32::from(*byte));
     }
     octets::put(out, next, b'\n')
 }
@@ -86,10 +81,8 @@ fn verdict_word(out: &mut [u8], verdict: u8) -> usize
     ensures puts { Puts (if eqb verdict 0 then text "settled" else text "stopped") out.old 0 out.new result }
     ensures value { result ≡ 7 }
 {
-    if verdict == 0 {
-        return octets::copy(out, 0, b"settled");
-    }
-    octets::copy(out, 0, b"stopped")
+    let word: &[u8] = if verdict == 0 { b"settled" } else { b"stopped" };
+    octets::copy(out, 0, word)
 }
 
 // The verdict's word and its numbers: shared count, floor, ranked.
@@ -99,8 +92,8 @@ fn verdict_line(out: &mut [u8], reply: &[u8]) -> usize
     ensures upper_bound { result ≤ 41 }
 {
     let next = verdict_word(out, reply[0]);
-    let next = field(out, next, octets::wide(reply[1]));
-    let next = field(out, next, octets::wide(reply[2]));
+    let next = field(out, next, u32::from(reply[1]));
+    let next = field(out, next, u32::from(reply[2]));
     let next = field(out, next, octets::number4(reply, 8));
     octets::put(out, next, b'\n')
 }

@@ -11,7 +11,7 @@ use lib.ListN.{length}
 use borrow.Author.Tests.{leb-true, leb-false, le-leb, lt-leb, ltb-true, ltb-false}
 use Rattle.laws.proofs.ListLaws.{get_or_mem}
 use Rattle.problem.specs.declared.Request.{Request}
-use Rattle.problem.specs.Table.{arcs_of, fault_of}
+use Rattle.problem.specs.Table.{arcs_of}
 use Rattle.problem.specs.Blanks.{blanks_number}
 use Rattle.problem.specs.Closed.{closed_size, closed_in, is_open, planned_arcs}
 use Rattle.problem.specs.Routes.{Route, arc_at, route_of}
@@ -19,7 +19,7 @@ use Rattle.problem.specs.Pairs.{Pair, no_route, Step, every, some_at, least_sett
 use Rattle.problem.specs.Apart.{judges}
 use Rattle.problem.specs.Reply.{mesh_of, Answer, first_number, size_checks, request_checks, arc_checks, blank_checks, closed_checks, refusal, Passed, planned_unless, answer_among, after}
 use Rattle.problem.specs.Calls.{routes_of, RouteOf, Applies, Told, LowestFault, LowestBlank}
-use Rattle.problem.proofs.FaultLaws.{fault_range, lowest_first}
+use Rattle.problem.proofs.FaultLaws.{arc_range, lowest_first}
 use Rattle.problem.proofs.ClosedLaws.{planned_heads}
 use Rattle.problem.proofs.BlankLaws.{lowest_told}
 use Rattle.problem.proofs.FirstLaws.{or_next, first_append, early_refusing, plain_refusing, first_blanks}
@@ -259,7 +259,7 @@ module _ (only : Bool) (table closed : List ℕ) (q : Request) (size : ℕ) wher
   of_fault small (inr b) = absurd (omega (arith, b.0))
 
   of_blank : {i n : ℕ} → 22 < n → OfArc i n → (n ≡ 24) × LowestBlank (arcs_of table) i
-  of_blank {i} large (inl l) = absurd (omega (arith, l.first_fault, fault_range (fault_of (arc_at (arcs_of table) i))))
+  of_blank {i} large (inl l) = absurd (omega (arith, l.first_fault, arc_range (arc_at (arcs_of table) i)))
   of_blank large (inr b) = b
 
   -- where no turn before that of faulty arcs comes to a number, which arc it names, and which fault

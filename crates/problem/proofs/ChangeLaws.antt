@@ -1,5 +1,6 @@
 -- Mending, the list: read back from its bytes, what stands in it and in which order, and the old number of each arc that is kept. Assumes nothing.
-use Rattle.std.specs.Prelude.{if◌then◌else◌}
+use Rattle.std.specs.Prelude.{Option, Some, None, is_some}
+use Rattle.std.specs.Option.{option_map_or}
 use mathlib.Core.Path.{◌≡◌, refl, sym, ap, ◌∙◌, subst}
 use mathlib.Core.Logic.{◌⊎◌, inl, inr}
 use mathlib.Core.Bool.{Bool, true, false, true≢false, false≢true}
@@ -15,11 +16,11 @@ use Rattle.laws.specs.Choosing.{numbers_from, keep, Pairwise}
 use Rattle.laws.proofs.ListLaws.{get_or_mem, keep_in, keep_out, keep_none, keep_first, keep_past, length_keep, pairwise_append, pairwise_keep, pairwise_map}
 use Rattle.laws.proofs.RowLaws.{numbers_in, numbers_out, numbers_rise, map_numbers, flat_length, flat_at}
 use Rattle.problem.specs.declared.Fault.{Fault}
-use Rattle.problem.specs.declared.Fault.TheVariants.{Sound, Node, EqualEnds, Length}
+use Rattle.problem.specs.declared.Fault.TheVariants.{Node, EqualEnds, Length}
 use Rattle.problem.specs.declared.Reason.{Reason}
-use Rattle.problem.specs.declared.Reason.TheVariants.{Unchanged, BadNode, SameEnds, TooLong, PastLimit}
+use Rattle.problem.specs.declared.Reason.TheVariants.{BadNode, SameEnds, TooLong, PastLimit}
 use Rattle.problem.specs.Table.{most_in_table, number_at, bytes_of, record_at, arcs_of, fault_number, arc_number}
-use Rattle.problem.specs.Mending.{most_field_bytes, Clean, whole_arcs, fault_at, may_stay, stays, new_number, staying_below, kept_arcs, reason_for, reason_at, reason_number, is_lost, no_number, Change, changed, torn_end, is_changed, change_at, changes_from, changes, change_bytes, mended_list, change_in, changes_in, old_number, KeptAs, lost, Listed}
+use Rattle.problem.specs.Mending.{most_field_bytes, Clean, whole_arcs, fault_at, may_stay, stays, new_number, staying_below, kept_arcs, reason_for, reason_at, reason_number, no_number, Change, changed, torn_end, is_changed, change_at, changes_from, changes, change_bytes, mended_list, change_in, changes_in, old_number, KeptAs, lost, Listed}
 use Rattle.problem.proofs.FaultLaws.{faultless_number}
 use Rattle.problem.proofs.TableLaws.{arcs_length, arcs_at, number_sound}
 use Rattle.problem.proofs.MendLaws.{new_below, new_more, new_same, kept_at, clean_sound}
@@ -67,24 +68,24 @@ old_later (c ∷ cs) x f = rw (lt-leb c.old x (f c (Memᴰ.head refl))) (old_lat
 -- ---- the reason of one arc
 
 -- what is removed is lost
-pub removed_lost : (f : Fault) (n : ℕ) → may_stay f ≡ false → is_lost (reason_for f n) ≡ true
-removed_lost Node n e = refl
-removed_lost EqualEnds n e = refl
-removed_lost Length n e = refl
-removed_lost Sound n e = absurd (true≢false e)
+pub removed_lost : (f : Option Fault) (n : ℕ) → may_stay f ≡ false → is_some (reason_for f n) ≡ true
+removed_lost (Some Node) n e = refl
+removed_lost (Some EqualEnds) n e = refl
+removed_lost (Some Length) n e = refl
+removed_lost None n e = absurd (true≢false e)
 
 -- what stays within the limit is kept, and what stays past it is lost
-pub kept_reason : (f : Fault) (n : ℕ) → may_stay f ≡ true → n < most_in_table → is_lost (reason_for f n) ≡ false
-kept_reason Node n e h = absurd (false≢true e)
-kept_reason EqualEnds n e h = absurd (false≢true e)
-kept_reason Length n e h = absurd (false≢true e)
-kept_reason Sound n e h = rw (lt-ltb n most_in_table h)
+pub kept_reason : (f : Option Fault) (n : ℕ) → may_stay f ≡ true → n < most_in_table → is_some (reason_for f n) ≡ false
+kept_reason (Some Node) n e h = absurd (false≢true e)
+kept_reason (Some EqualEnds) n e h = absurd (false≢true e)
+kept_reason (Some Length) n e h = absurd (false≢true e)
+kept_reason None n e h = rw (lt-ltb n most_in_table h)
 
-pub past_reason : (f : Fault) (n : ℕ) → may_stay f ≡ true → most_in_table ≤ n → reason_for f n ≡ PastLimit
-past_reason Node n e h = absurd (false≢true e)
-past_reason EqualEnds n e h = absurd (false≢true e)
-past_reason Length n e h = absurd (false≢true e)
-past_reason Sound n e h = rw (le-ltb n most_in_table h)
+pub past_reason : (f : Option Fault) (n : ℕ) → may_stay f ≡ true → most_in_table ≤ n → reason_for f n ≡ Some PastLimit
+past_reason (Some Node) n e h = absurd (false≢true e)
+past_reason (Some EqualEnds) n e h = absurd (false≢true e)
+past_reason (Some Length) n e h = absurd (false≢true e)
+past_reason None n e h = rw (le-ltb n most_in_table h)
 
 -- ---- the list of one input
 
@@ -107,35 +108,33 @@ module _ (input : List ℕ) where
   -- what becomes of a whole arc: it is lost, for a reason that the request gives, or kept as it is
   data Lot (k : ℕ) : Type 0 where
     goes : (reason : ℕ) → Listed input (lost k reason) → is_changed input k ≡ true → change_at input k ≡ lost k reason → Lot k
-    as_it_is : KeptAs input k (new_number input k) → fault_at input k ≡ Sound → is_changed input k ≡ false → Lot k
+    as_it_is : KeptAs input k (new_number input k) → fault_at input k ≡ None → is_changed input k ≡ false → Lot k
 
   module _ (k : ℕ) (h : k < whole_arcs input) where
     -- by its first fault and, where it stays, by the limit
-    by_fault : {f : Fault} → fault_at input k ≡ f → reason_at input k ≡ reason_for f (new_number input k)
-    by_fault e = ap (λ (g : Fault). reason_for g (new_number input k)) e
+    by_fault : {f : Option Fault} → fault_at input k ≡ f → reason_at input k ≡ reason_for f (new_number input k)
+    by_fault e = ap (λ (g : Option Fault). reason_for g (new_number input k)) e
 
-    goes_by : (r : Reason) → reason_at input k ≡ r → is_lost r ≡ true → Listed input (lost k (reason_number r)) → Lot k
-    goes_by r e lost-then l =
-        Lot.goes (reason_number r) l (ap is_lost e ∙ lost-then)
-        (ap (λ (s : Reason). changed k s (new_number input k)) e ∙ ap (λ (b : Bool). record { old = k; reason = reason_number r; new = if b then no_number else new_number input k }) lost-then)
+    goes_by : (r : Reason) → reason_at input k ≡ Some r → Listed input (lost k (reason_number r)) → Lot k
+    goes_by r e l = Lot.goes (reason_number r) l (ap is_some e) (ap (λ (s : Option Reason). changed k s (new_number input k)) e)
 
-    kept_here : {f : Fault} → fault_at input k ≡ f → may_stay f ≡ true → new_number input k < most_in_table → KeptAs input k (new_number input k)
+    kept_here : {f : Option Fault} → fault_at input k ≡ f → may_stay f ≡ true → new_number input k < most_in_table → KeptAs input k (new_number input k)
     kept_here e s room = record { is_whole = h; is_to_stay = ap may_stay e ∙ s; in_turn = refl; has_room = room }
 
-    past_here : {f : Fault} → fault_at input k ≡ f → may_stay f ≡ true → most_in_table ≤ new_number input k → Lot k
-    past_here {f} e s past = goes_by PastLimit (by_fault e ∙ past_reason f (new_number input k) s past) refl (Listed.past_limit k h (ap may_stay e ∙ s) past)
+    past_here : {f : Option Fault} → fault_at input k ≡ f → may_stay f ≡ true → most_in_table ≤ new_number input k → Lot k
+    past_here {f} e s past = goes_by PastLimit (by_fault e ∙ past_reason f (new_number input k) s past) (Listed.past_limit k h (ap may_stay e ∙ s) past)
 
     lot : Lot k
     lot = go (fault_at input k) refl (ltb (new_number input k) most_in_table) refl
       where
-        go : (f : Fault) → fault_at input k ≡ f → (b : Bool) → ltb (new_number input k) most_in_table ≡ b → Lot k
-        go Node e b t = goes_by BadNode (by_fault e) refl (Listed.bad_node k h e)
-        go EqualEnds e b t = goes_by SameEnds (by_fault e) refl (Listed.equal_ends k h e)
-        go Length e b t = goes_by TooLong (by_fault e) refl (Listed.bad_length k h e)
-        go Sound e true t =
-            let is : reason_at input k ≡ Unchanged = by_fault e ∙ rw t in
-            Lot.as_it_is (kept_here e refl (ltb-true _ _ t)) e (ap is_lost is)
-        go Sound e false t = past_here e refl (ltb-false _ _ t)
+        go : (f : Option Fault) → fault_at input k ≡ f → (b : Bool) → ltb (new_number input k) most_in_table ≡ b → Lot k
+        go (Some Node) e b t = goes_by BadNode (by_fault e) (Listed.bad_node k h e)
+        go (Some EqualEnds) e b t = goes_by SameEnds (by_fault e) (Listed.equal_ends k h e)
+        go (Some Length) e b t = goes_by TooLong (by_fault e) (Listed.bad_length k h e)
+        go None e true t =
+            let is : reason_at input k ≡ None = by_fault e ∙ rw t in
+            Lot.as_it_is (kept_here e refl (ltb-true _ _ t)) e (ap is_some is)
+        go None e false t = past_here e refl (ltb-false _ _ t)
 
   -- what becomes of the input's end: it is whole, or torn
   pub whole_end : length input % 16 ≡ 0 → torn_end input ≡ []
@@ -180,19 +179,19 @@ module _ (input : List ℕ) where
       go (inr q) = let t = torn_out q in subst (Listed input) (sym t.0) (Listed.has_torn_end t.1)
 
   -- and what the request says stands in the list
-  listed_whole : (k : ℕ) → k < whole_arcs input → {r : Reason} → reason_at input k ≡ r → is_lost r ≡ true → Memᴰ (changed k r (new_number input k)) (changes input)
+  listed_whole : (k : ℕ) → k < whole_arcs input → (r : Reason) → reason_at input k ≡ Some r → Memᴰ (lost k (reason_number r)) (changes input)
   unfolding changes
-  listed_whole k h {r} e l =
+  listed_whole k h r e =
       Memᴰ.append_left (torn_end input)
-      (Memᴰ.cast (ap (λ (s : Reason). changed k s (new_number input k)) (sym e))
-      (Memᴰ.map (change_at input) (keep_in (is_changed input) (numbers_from 0 (whole_arcs input)) (numbers_in 0 (whole_arcs input) (omega arith) (omega arith)) (ap is_lost e ∙ l))))
+      (Memᴰ.cast (ap (λ (s : Option Reason). changed k s (new_number input k)) (sym e))
+      (Memᴰ.map (change_at input) (keep_in (is_changed input) (numbers_from 0 (whole_arcs input)) (numbers_in 0 (whole_arcs input) (omega arith) (omega arith)) (ap is_some e))))
 
   pub listed_in : {c : Change} → Listed input c → Memᴰ c (changes input)
   unfolding changes
-  listed_in (Listed.bad_node k h e) = listed_whole k h {r = BadNode} (by_fault k h e) refl
-  listed_in (Listed.equal_ends k h e) = listed_whole k h {r = SameEnds} (by_fault k h e) refl
-  listed_in (Listed.bad_length k h e) = listed_whole k h {r = TooLong} (by_fault k h e) refl
-  listed_in (Listed.past_limit k h s p) = listed_whole k h {r = PastLimit} (past_reason (fault_at input k) (new_number input k) s p) refl
+  listed_in (Listed.bad_node k h e) = listed_whole k h BadNode (by_fault k h e)
+  listed_in (Listed.equal_ends k h e) = listed_whole k h SameEnds (by_fault k h e)
+  listed_in (Listed.bad_length k h e) = listed_whole k h TooLong (by_fault k h e)
+  listed_in (Listed.past_limit k h s p) = listed_whole k h PastLimit (past_reason (fault_at input k) (new_number input k) s p)
   listed_in (Listed.has_torn_end t) = Memᴰ.append_right (changes_from input 0 (whole_arcs input)) (rw (has_torn_end t) (Memᴰ.head refl))
 
   -- no old number is past that of a torn end
@@ -340,10 +339,10 @@ module _ (input : List ℕ) where
         go (Ended.whole e) = e
         go (Ended.torn e) = absurd (none _ (Listed.has_torn_end e))
 
-    unlisted_same : (k : ℕ) → k < whole_arcs input → KeptAs input k (new_number input k) × (fault_at input k ≡ Sound)
+    unlisted_same : (k : ℕ) → k < whole_arcs input → KeptAs input k (new_number input k) × (fault_at input k ≡ None)
     unlisted_same k h = go (lot k h)
       where
-        go : Lot k → KeptAs input k (new_number input k) × (fault_at input k ≡ Sound)
+        go : Lot k → KeptAs input k (new_number input k) × (fault_at input k ≡ None)
         go (Lot.goes reason l c is) = absurd (none _ l)
         go (Lot.as_it_is kept f c) = (kept, f)
 
@@ -362,7 +361,7 @@ module _ (input : List ℕ) where
       has_whole_arcs = unlisted_whole;
       sound = number_sound (arcs_of input) (faultless_number (arcs_of input) (λ j b.
           let h : j < whole_arcs input = omega (arith, arcs_length input) in
-          ap arc_number (arcs_at input j (omega arith)) ∙ ap fault_number (unlisted_same j h).1));
+          ap arc_number (arcs_at input j (omega arith)) ∙ ap (λ (f : Option Fault). option_map_or fault_number f 0) (unlisted_same j h).1));
     }
 
   -- the list is empty exactly where there is no change

@@ -2,6 +2,7 @@ pub mod ByteLaws
 pub mod ExposureLaws
 pub mod ToldLaws
 pub mod FaultLaws
+pub mod NumberLaws
 pub mod TableLaws
 pub mod BlankLaws
 pub mod SpanLaws

@@ -1,7 +1,8 @@
 -- Mending, calls: how a call of the mender ends, what the planner makes of a clean table, and what is left for a person. Assumes nothing.
+use Rattle.std.specs.Prelude.{Some, None, is_some}
 use mathlib.Core.Path.{◌≡◌, refl, sym, ap, ◌∙◌, subst}
 use mathlib.Core.Logic.{◌⊎◌, inl, inr, ◌↔◌}
-use mathlib.Core.Bool.{Bool, true, false, or-true}
+use mathlib.Core.Bool.{Bool, true, false, true≢false, or-true}
 use mathlib.Core.List.{List, []}
 use Prim.Native.Nat.{ℕ, zero, suc, ◌%◌, ◌≤◌, ◌<◌}
 use native.Mathlib.Omega.{arith}
@@ -9,14 +10,13 @@ use lib.Dec.{ltb}
 use lib.ListN.{length}
 use borrow.Author.Tests.{ltb-true, ltb-false, lt-ltb, le-ltb}
 use Rattle.problem.specs.declared.Fault.{Fault}
-use Rattle.problem.specs.declared.Fault.TheVariants.{Sound}
 use Rattle.problem.specs.declared.Request.{Request}
-use Rattle.problem.specs.Table.{most_in_table, record_at, arc_of, arcs_of, SoundArc, fault_of, fault_number}
+use Rattle.problem.specs.Table.{most_in_table, record_at, arc_of, arcs_of, SoundArc, fault_of}
 use Rattle.problem.specs.Routes.{arc_at}
 use Rattle.problem.specs.Reply.{first_number, answer_around}
 use Rattle.problem.specs.Calls.{Applies}
 use Rattle.problem.specs.Mending.{most_field_bytes, Clean, whole_arcs, fault_at, may_stay, new_number, mended_table, Change, mended_list, rounded_up, Mending, mend_checks, mending_unless, mending, lost, Listed}
-use Rattle.problem.proofs.FaultLaws.{sound_none, arc_sound, fault_sound}
+use Rattle.problem.proofs.FaultLaws.{sound_none, fault_sound}
 use Rattle.problem.proofs.TableLaws.{arcs_at, sound_at}
 use Rattle.problem.proofs.MendLaws.{kept_record}
 use Rattle.problem.proofs.RefusalLaws.{Known}
@@ -150,8 +150,8 @@ module _ (input : List ℕ) (k : ℕ) (whole : k < whole_arcs input) (sound : So
   here : arc_at (arcs_of input) k ≡ arc_of (record_at input k)
   here = arcs_at input k (omega arith)
 
-  no_fault : fault_at input k ≡ Sound
-  no_fault = ap fault_of (sym here) ∙ fault_sound (arc_at (arcs_of input) k) (arc_sound (arc_at (arcs_of input) k) sound)
+  no_fault : fault_at input k ≡ None
+  no_fault = ap fault_of (sym here) ∙ fault_sound (arc_at (arcs_of input) k) sound
 
   pub sound_left : arc_at (arcs_of (mended_table input)) (new_number input k) ≡ arc_at (arcs_of input) k
   sound_left =
@@ -161,12 +161,12 @@ module _ (input : List ℕ) (k : ℕ) (whole : k < whole_arcs input) (sound : So
   pub sound_unlisted : (reason : ℕ) → Listed input (lost k reason) → ⊥
   sound_unlisted reason l = go refl l
     where
-      faulty : {f : Fault} {j : ℕ} → fault_at input j ≡ f → j ≡ k → (fault_number f ≡ 0 → ⊥) → ⊥
-      faulty is e some = some (ap fault_number (sym is ∙ ap (fault_at input) e ∙ no_fault))
+      faulty : {f : Fault} {j : ℕ} → fault_at input j ≡ Some f → j ≡ k → ⊥
+      faulty is e = true≢false (ap is_some (sym is ∙ ap (fault_at input) e ∙ no_fault))
 
       go : {c : Change} → c.old ≡ k → Listed input c → ⊥
-      go e (Listed.bad_node j b is) = faulty is e (λ z. omega arith)
-      go e (Listed.equal_ends j b is) = faulty is e (λ z. omega arith)
-      go e (Listed.bad_length j b is) = faulty is e (λ z. omega arith)
+      go e (Listed.bad_node j b is) = faulty is e
+      go e (Listed.equal_ends j b is) = faulty is e
+      go e (Listed.bad_length j b is) = faulty is e
       go e (Listed.past_limit j b is past) = omega (arith, ap (new_number input) e)
       go e (Listed.has_torn_end t) = omega arith

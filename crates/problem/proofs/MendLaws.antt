@@ -1,4 +1,6 @@
 -- Mending, the table: what is kept and where it stands, that it is clean, and that a clean table stays as it is. Assumes nothing.
+use Rattle.std.specs.Prelude.{Option, Some, None}
+use Rattle.std.specs.Option.{option_map_or}
 use mathlib.Core.Path.{◌≡◌, refl, sym, ap, ◌∙◌, subst}
 use mathlib.Core.Bool.{true, false, false≢true}
 use mathlib.Core.List.{List, [], ◌∷◌, ◌++◌, Memᴰ}
@@ -12,20 +14,20 @@ use Rattle.laws.proofs.ListLaws.{get_or_mem, take_mem, keep_out, length_keep}
 use Rattle.laws.proofs.FoldLaws.{keep_all}
 use Rattle.laws.proofs.RowLaws.{PassingAt, numbers_length, numbers_out, passing_next, passing_same, passing_more, passing_below, passing_place, passing_at, flat_length, flat_at}
 use Rattle.problem.specs.declared.Fault.{Fault}
-use Rattle.problem.specs.declared.Fault.TheVariants.{Sound, Node, EqualEnds, Length}
+use Rattle.problem.specs.declared.Fault.TheVariants.{Node, EqualEnds, Length}
 use Rattle.problem.specs.Table.{most_in_table, record_at, arc_of, arcs_of, SoundArc, fault_of, fault_number, arc_number}
 use Rattle.problem.specs.Routes.{arc_at}
 use Rattle.problem.specs.Mending.{Clean, whole_arcs, fault_at, may_stay, stays, staying_below, new_number, kept_arcs, mended_table, KeptAs}
-use Rattle.problem.proofs.FaultLaws.{arc_sound, faultless_number, fault_sound}
+use Rattle.problem.proofs.FaultLaws.{faultless_number, fault_sound}
 use Rattle.problem.proofs.TableLaws.{arcs_length, arcs_at, number_sound, sound_at}
 
 -- ---- what stays
 
-stays_number : (f : Fault) → may_stay f ≡ true → fault_number f ≡ 0
-stays_number Node e = absurd (false≢true e)
-stays_number EqualEnds e = absurd (false≢true e)
-stays_number Length e = absurd (false≢true e)
-stays_number Sound e = refl
+stays_number : (f : Option Fault) → may_stay f ≡ true → option_map_or fault_number f 0 ≡ 0
+stays_number (Some Node) e = absurd (false≢true e)
+stays_number (Some EqualEnds) e = absurd (false≢true e)
+stays_number (Some Length) e = absurd (false≢true e)
+stays_number None e = refl
 
 -- ---- records one behind another
 
@@ -155,8 +157,8 @@ module _ (input : List ℕ) where
     clean_arc : (k : ℕ) → k < whole_arcs input → SoundArc (arc_of (record_at input k))
     clean_arc k h = subst SoundArc (arcs_at input k (omega arith)) (sound_at (arcs_of input) clean.sound k (omega (arith, arcs_length input)))
 
-    pub clean_sound : (k : ℕ) → k < whole_arcs input → fault_at input k ≡ Sound
-    clean_sound k h = fault_sound _ (arc_sound _ (clean_arc k h))
+    pub clean_sound : (k : ℕ) → k < whole_arcs input → fault_at input k ≡ None
+    clean_sound k h = fault_sound _ (clean_arc k h)
 
     clean_stays : (k : ℕ) → k < whole_arcs input → stays input k ≡ true
     clean_stays k h = rw (clean_sound k h)

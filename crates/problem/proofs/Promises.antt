@@ -2,6 +2,7 @@
 -- A call has a table of any bytes, a closed set of any bytes (T-06), a request of any numbers and a reply buffer of any size; `answer_around` gives its number and the bytes that it writes.
 -- The entry that takes no closed set is called with `none_closed` here: `as_over_all` and `never_sixteen` say that nothing of closed sets is left in its answer.
 -- CallPromises.antt says the same of calls of the entry itself, by the number returned and the bytes in the buffer; the entry ends for every call. Assumes nothing.
+use Rattle.std.specs.Prelude.{Some}
 use mathlib.Core.Path.{◌≡◌, refl, sym, ap, ◌∙◌, subst}
 use mathlib.Core.Bool.{Bool, true, false}
 use mathlib.Core.Logic.{◌⊎◌, inl, inr, ◌↔◌}
@@ -18,7 +19,6 @@ use Rattle.laws.specs.Sets.{bit, in_both}
 use Rattle.problem.specs.declared.Arc.{Arc}
 use Rattle.problem.specs.declared.Exposure.{Exposure}
 use Rattle.problem.specs.declared.Fault.{Fault}
-use Rattle.problem.specs.declared.Fault.TheVariants.{Sound}
 use Rattle.problem.specs.declared.Request.{Request}
 use Rattle.problem.specs.Table.{last_node, most_arcs, risk_width, most_shared, most_reach, most_allowance, most_in_table, reply_size, Bytes, record_at, arcs_of, SoundArc, HasFault, fault_of, fault_number, all_sound}
 use Rattle.problem.specs.Routes.{Mesh, arc_at, metres_of, exposure_of, nodes_from, IsWay, IsPath, IsRoute, FreeWay, Route, route_of, precedes}
@@ -247,7 +247,7 @@ pub arc_apart : (table closed : List ℕ) (q : Request) (size : ℕ) → let n =
 arc_apart table closed q size past other = CallLaws.arc_apart false table closed q size past other (inl refl)
 
 -- an arc's first fault is, of those that it has, that of the smallest number
-pub first_fault : (a : Arc) (f : Fault) → (f ≡ Sound → ⊥) → (fault_of a ≡ f) ↔ (HasFault a f × ((g : Fault) → fault_number g < fault_number f → HasFault a g → ⊥))
+pub first_fault : (a : Arc) (f : Fault) → (fault_of a ≡ Some f) ↔ (HasFault a f × ((g : Fault) → fault_number g < fault_number f → HasFault a g → ⊥))
 first_fault = FaultLaws.first_exactly
 
 -- and the sound arcs are those that have none

@@ -16,14 +16,14 @@ use Rattle.laws.proofs.SetLaws.{bit_past, element_past}
 use Rattle.problem.specs.declared.Arc.{Arc}
 use Rattle.problem.specs.declared.Fault.{Fault}
 use Rattle.problem.specs.declared.Request.{Request}
-use Rattle.problem.specs.Table.{last_node, most_reach, most_allowance, most_table_bytes, reply_size, arcs_of, HasFault, fault_of, fault_number, arc_number, arcs_number, all_sound}
+use Rattle.problem.specs.Table.{last_node, most_reach, most_allowance, most_table_bytes, reply_size, arcs_of, HasFault, fault_number, arc_number, arcs_number, all_sound}
 use Rattle.problem.specs.Routes.{arc_at}
 use Rattle.problem.specs.Blanks.{Blank, blanks_number, none_blank}
 use Rattle.problem.specs.Closed.{closed_size, closed_in}
 use Rattle.problem.specs.Reply.{first_number, size_checks, request_checks, arc_checks, blank_checks, closed_checks, refusal, Passed}
 use Rattle.problem.specs.Calls.{RouteOf, Applies, Told, LowestFault, LowestBlank}
 use Rattle.problem.proofs.ToldLaws.{First, first}
-use Rattle.problem.proofs.FaultLaws.{Faulty, fault_had, fault_first, fault_range, sound_none, sound_arc, faulty_number}
+use Rattle.problem.proofs.FaultLaws.{Faulty, some_fault, fault_first, fault_range, arc_range, sound_none, sound_arc, faulty_number}
 use Rattle.problem.proofs.TableLaws.{arcs_length, sound_at}
 use Rattle.problem.proofs.BlankLaws.{lowest_told, listed_at}
 
@@ -138,12 +138,18 @@ module _ (table closed : List ℕ) (q : Request) (size : ℕ) where
 
   -- ---- the turns of the arcs
 
+  -- an arc with a number has it in its turn
+  arc_applies : (k : ℕ) → k < length arcs → (arc_number (arc_at arcs k) ≡ 0 → ⊥) → Applies table closed q size 9 (arc_number (arc_at arcs k) + 256 * k)
+  arc_applies k b some =
+      let f = some_fault (arc_at arcs k) some in
+      subst (λ (n : ℕ). Applies table closed q size 9 (n + 256 * k)) f.2 (Applies.arc_faulty k f.0 b f.1)
+
   -- the first faulty arc is told with its first fault, where no turn before comes to a number
   pub told_faulty : NoneBefore 9 → {k : ℕ} → Faulty arcs k → Told table closed q size (arc_number (arc_at arcs k) + 256 * k)
   told_faulty below {k} f =
       record {
         turn = 9;
-        applies = Applies.arc_faulty k (fault_of (arc_at arcs k)) f.inside (fault_had (arc_at arcs k) f.has);
+        applies = arc_applies k f.inside f.has;
         none_before = below;
         none_smaller = smaller;
       }
@@ -152,7 +158,7 @@ module _ (table closed : List ℕ) (q : Request) (size : ℕ) where
       smaller i l (Applies.arc_faulty j g b h) =
           let first = fault_first (arc_at arcs j) h in
           let not_lower : j < k → ⊥ = λ lower. omega (arith, first.0, f.none_before j lower) in
-          let same : j ≡ k = omega (arith, fault_range (fault_of (arc_at arcs k))) in
+          let same : j ≡ k = omega (arith, arc_range (arc_at arcs k)) in
           omega (arith, first.1, ap (λ (x : ℕ). arc_number (arc_at arcs x)) same)
 
   -- and the first blank arc
@@ -169,16 +175,13 @@ module _ (table closed : List ℕ) (q : Request) (size : ℕ) where
       lowest : (k : ℕ) (f : Fault) → k < length arcs → HasFault (arc_at arcs k) f → ((j : ℕ) → j < fault_number f + 256 * k → Applies table closed q size 9 j → ⊥) → LowestFault arcs k (fault_number f)
       lowest k f b h none =
           let first = fault_first (arc_at arcs k) h in
-          let not_less : arc_number (arc_at arcs k) < fault_number f → ⊥ = λ l. none (arc_number (arc_at arcs k) + 256 * k) (omega arith) (at k b (λ z. omega (arith, first.0))) in
+          let not_less : arc_number (arc_at arcs k) < fault_number f → ⊥ = λ l. none (arc_number (arc_at arcs k) + 256 * k) (omega arith) (arc_applies k b (λ z. omega (arith, first.0))) in
           record { in_table = b; is_fault = omega (arith, first); first_fault = omega (arith, first.1); sound_below = λ j l. sound_arc _ (sound_below j l) }
         where
-          at : (j : ℕ) → j < length arcs → (arc_number (arc_at arcs j) ≡ 0 → ⊥) → Applies table closed q size 9 (arc_number (arc_at arcs j) + 256 * j)
-          at j l some = Applies.arc_faulty j (fault_of (arc_at arcs j)) l (fault_had (arc_at arcs j) some)
-
           sound_below : (j : ℕ) → j < k → arc_number (arc_at arcs j) ≡ 0
           sound_below j l =
-              let range = fault_range (fault_of (arc_at arcs j)) in
-              let no_number : 0 < arc_number (arc_at arcs j) → ⊥ = λ some. none (arc_number (arc_at arcs j) + 256 * j) (omega arith) (at j (omega arith) (λ z. omega arith)) in
+              let range = arc_range (arc_at arcs j) in
+              let no_number : 0 < arc_number (arc_at arcs j) → ⊥ = λ some. none (arc_number (arc_at arcs j) + 256 * j) (omega arith) (arc_applies j (omega arith) (λ z. omega arith)) in
               omega arith
 
       go : {t m : ℕ} → 10 < m → (m ≡ 16 → ⊥) → Turn t m → ((j : ℕ) → j < m → Applies table closed q size t j → ⊥) → m ≡ n + 256 * i → LowestFault arcs i n ⊎ ((n ≡ 24) × LowestBlank arcs i)

@@ -1,10 +1,10 @@
 -- 01, Meshes worked by hand: the starred cases, proved as a single table against the definitions; and rows of our own, each there because a wrong definition
 -- would otherwise pass (docs/TESTING.md has the wrong definitions that were tried). Assumes nothing.
-use Rattle.std.specs.Prelude.{ℕ, zero, suc, ◌+◌, ◌*◌, ◌-◌, ◌^◌, Bool, true, false, List, [], ◌∷◌, ◌++◌, map, ◌≡◌, refl, length, take, replicate}
+use Rattle.std.specs.Prelude.{ℕ, zero, suc, ◌+◌, ◌*◌, ◌-◌, ◌^◌, Bool, true, false, List, [], ◌∷◌, ◌++◌, map, ◌≡◌, refl, length, take, replicate, Some, None}
 use Rattle.std.proofs.Common.{arith}
 use Rattle.laws.specs.Choosing.{numbers_from}
 use Rattle.problem.specs.declared.Request.{Request}
-use Rattle.problem.specs.declared.Fault.TheVariants.{Sound, Node, EqualEnds, Length}
+use Rattle.problem.specs.declared.Fault.TheVariants.{Node, EqualEnds, Length}
 use Rattle.problem.specs.Opened.{opened}
 use Rattle.problem.specs.Table.{nodes, most_arcs, risk_width, most_shared, hazards, most_arc_metres, most_reach, most_in_table, Bytes, bytes_of, arc_of, arcs_of, fault_of}
 use Rattle.problem.specs.Spans.{marked}
@@ -264,7 +264,7 @@ pub first_faults
     ∷ (0 ∷ 31 ∷ 1 ∷ 0 ∷ bytes_of 4 2000000 ++ bytes_of 8 0)
     ∷ (31 ∷ 0 ∷ 0 ∷ 0 ∷ bytes_of 4 2000000 ++ bytes_of 8 0)
     ∷ [])
-    ≡ Node ∷ Node ∷ EqualEnds ∷ Length ∷ Sound ∷ Sound ∷ []
+    ≡ Some Node ∷ Some Node ∷ Some EqualEnds ∷ Some Length ∷ None ∷ None ∷ []
 unfolding opened
 first_faults = refl
 

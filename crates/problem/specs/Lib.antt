@@ -6,6 +6,7 @@ pub mod Exposures
 pub mod Routes
 pub mod Pairs
 pub mod Apart
+pub mod Refusals
 pub mod Reply
 pub mod Calls
 pub mod Mending

@@ -1,11 +1,12 @@
 -- Request T-01, Mending tables from the field: which arcs are kept, what is changed or lost, the two outputs of the mender, and what a reader makes of the list. Assumes nothing.
-use Rattle.std.specs.Prelude.{ℕ, zero, suc, ◌+◌, ◌*◌, ◌/◌, ◌%◌, ◌≤◌, ◌<◌, Bool, true, false, ◌&&◌, ◌||◌, ◌≡◌, eqb, leb, ltb, length, get_or, take, replicate, if◌then◌else◌}
+use Rattle.std.specs.Prelude.{ℕ, zero, suc, ◌+◌, ◌*◌, ◌/◌, ◌%◌, ◌≤◌, ◌<◌, Bool, true, false, ◌&&◌, ◌||◌, ◌≡◌, eqb, leb, ltb, length, get_or, take, replicate, if◌then◌else◌, Option, Some, None, is_some}
+use Rattle.std.specs.Option.{option_map_or}
 use mathlib.Core.List.{List, [], ◌∷◌, ◌++◌, map, flat_map}
 use Rattle.laws.specs.Choosing.{numbers_from, keep}
 use Rattle.problem.specs.declared.Fault.{Fault}
-use Rattle.problem.specs.declared.Fault.TheVariants.{Sound, Node, EqualEnds, Length}
+use Rattle.problem.specs.declared.Fault.TheVariants.{Node, EqualEnds, Length}
 use Rattle.problem.specs.declared.Reason.{Reason}
-use Rattle.problem.specs.declared.Reason.TheVariants.{Unchanged, BadNode, SameEnds, TooLong, PastLimit, TornEnd}
+use Rattle.problem.specs.declared.Reason.TheVariants.{BadNode, SameEnds, TooLong, PastLimit, TornEnd}
 use Rattle.problem.specs.Table.{most_table_bytes, most_in_table, number_at, bytes_of, over, record_at, arc_of, arcs_of, fault_of, all_sound}
 use Rattle.problem.specs.Reply.{Check, check, first_number}
 
@@ -26,15 +27,15 @@ abbrev pub whole_arcs : List ℕ → ℕ
 whole_arcs input = length input / 16
 
 -- the first fault of arc k
-abbrev pub fault_at : List ℕ → ℕ → Fault
+abbrev pub fault_at : List ℕ → ℕ → Option Fault
 fault_at input k = fault_of (arc_of (record_at input k))
 
 -- an arc with a bad node, equal ends or a bad length is removed
-abbrev pub may_stay : Fault → Bool
-may_stay Node = false
-may_stay EqualEnds = false
-may_stay Length = false
-may_stay Sound = true
+abbrev pub may_stay : Option Fault → Bool
+may_stay (Some Node) = false
+may_stay (Some EqualEnds) = false
+may_stay (Some Length) = false
+may_stay None = true
 
 -- whether arc k stays, if there is room for it
 abbrev pub stays : List ℕ → ℕ → Bool
@@ -58,33 +59,23 @@ mended_table input = flat_map (record_at input) (kept_arcs input)
 
 -- ---- what is changed or lost
 
--- why, by an arc's first fault and its number afterwards: a fault is looked for before the limit of 128
-abbrev pub reason_for : Fault → ℕ → Reason
-reason_for Node new = BadNode
-reason_for EqualEnds new = SameEnds
-reason_for Length new = TooLong
-reason_for Sound new = if ltb new most_in_table then Unchanged else PastLimit
+-- why arc k is lost, by its first fault and its number afterwards: a fault is looked for before the limit of 128; none where it is kept
+abbrev pub reason_for : Option Fault → ℕ → Option Reason
+reason_for (Some Node) new = Some BadNode
+reason_for (Some EqualEnds) new = Some SameEnds
+reason_for (Some Length) new = Some TooLong
+reason_for None new = if ltb new most_in_table then None else Some PastLimit
 
-abbrev pub reason_at : List ℕ → ℕ → Reason
+abbrev pub reason_at : List ℕ → ℕ → Option Reason
 reason_at input k = reason_for (fault_at input k) (new_number input k)
 
 -- the number of each
 abbrev pub reason_number : Reason → ℕ
-reason_number Unchanged = 0
 reason_number BadNode = 1
 reason_number SameEnds = 2
 reason_number TooLong = 3
 reason_number PastLimit = 5
 reason_number TornEnd = 6
-
--- whether the arc is lost: then it stands in the list
-abbrev pub is_lost : Reason → Bool
-is_lost Unchanged = false
-is_lost BadNode = true
-is_lost SameEnds = true
-is_lost TooLong = true
-is_lost PastLimit = true
-is_lost TornEnd = true
 
 -- in place of a new number, where there is none
 abbrev pub no_number : ℕ
@@ -96,16 +87,16 @@ pub record Change : Type 0 where
   pub reason : ℕ
   pub new : ℕ
 
-abbrev pub changed : ℕ → Reason → ℕ → Change
-changed old reason new = record { old = old; reason = reason_number reason; new = if is_lost reason then no_number else new }
+abbrev pub changed : ℕ → Option Reason → ℕ → Change
+changed old reason new = record { old = old; reason = option_map_or reason_number reason 0; new = if is_some reason then no_number else new }
 
 -- a torn end counts as the arc that it would have been
 unfoldable pub torn_end : List ℕ → List Change
-torn_end input = if eqb (length input % 16) 0 then [] else changed (whole_arcs input) TornEnd no_number ∷ []
+torn_end input = if eqb (length input % 16) 0 then [] else changed (whole_arcs input) (Some TornEnd) no_number ∷ []
 
--- whether arc k has a change, and which; the changes of m arcs from k on
+-- whether arc k is lost, since only then it stands in the list, and its change; the changes of m arcs from k on
 abbrev pub is_changed : List ℕ → ℕ → Bool
-is_changed input k = is_lost (reason_at input k)
+is_changed input k = is_some (reason_at input k)
 
 abbrev pub change_at : List ℕ → ℕ → Change
 change_at input k = changed k (reason_at input k) (new_number input k)
@@ -189,8 +180,8 @@ lost k reason = record { old = k; reason = reason; new = no_number }
 
 -- what must stand in the list, reason by reason
 pub data Listed (input : List ℕ) : Change → Type 0 where
-  bad_node : (k : ℕ) → k < whole_arcs input → fault_at input k ≡ Node → Listed input (lost k 1)
-  equal_ends : (k : ℕ) → k < whole_arcs input → fault_at input k ≡ EqualEnds → Listed input (lost k 2)
-  bad_length : (k : ℕ) → k < whole_arcs input → fault_at input k ≡ Length → Listed input (lost k 3)
+  bad_node : (k : ℕ) → k < whole_arcs input → fault_at input k ≡ Some Node → Listed input (lost k 1)
+  equal_ends : (k : ℕ) → k < whole_arcs input → fault_at input k ≡ Some EqualEnds → Listed input (lost k 2)
+  bad_length : (k : ℕ) → k < whole_arcs input → fault_at input k ≡ Some Length → Listed input (lost k 3)
   past_limit : (k : ℕ) → k < whole_arcs input → stays input k ≡ true → most_in_table ≤ new_number input k → Listed input (lost k 5)
   has_torn_end : (length input % 16 ≡ 0 → ⊥) → Listed input (lost (whole_arcs input) 6)

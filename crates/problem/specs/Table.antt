@@ -1,8 +1,9 @@
 -- 01, The span table: the limits, numbers in bytes, the arc of 16 bytes, its faults, the table. Assumes nothing.
-use Rattle.std.specs.Prelude.{ℕ, zero, suc, ◌+◌, ◌*◌, ◌/◌, ◌%◌, ◌≤◌, ◌<◌, Bool, ◌||◌, List, [], ◌∷◌, ◌++◌, ◌≡◌, eqb, ltb, length, get_or, take, drop, if◌then◌else◌}
+use Rattle.std.specs.Prelude.{ℕ, zero, suc, ◌+◌, ◌*◌, ◌/◌, ◌%◌, ◌≤◌, ◌<◌, Bool, ◌||◌, List, [], ◌∷◌, ◌++◌, ◌≡◌, eqb, ltb, length, get_or, take, drop, if◌then◌else◌, Option, Some, None}
+use Rattle.std.specs.Option.{option_map_or}
 use Rattle.problem.specs.declared.Arc.{Arc}
 use Rattle.problem.specs.declared.Fault.{Fault}
-use Rattle.problem.specs.declared.Fault.TheVariants.{Sound, Node, EqualEnds, Length}
+use Rattle.problem.specs.declared.Fault.TheVariants.{Node, EqualEnds, Length}
 
 -- nodes are numbered from 0 to this
 abbrev pub last_node : ℕ
@@ -95,24 +96,23 @@ pub data HasFault (a : Arc) : Fault → Type 0 where
   ends_equal : a.tail ≡ a.head → HasFault a EqualEnds
   too_long : most_arc_metres < a.metres → HasFault a Length
 
--- the first fault of an arc, in order
-unfoldable pub fault_of : Arc → Fault
+-- the first fault of an arc, in order; a sound arc has none
+unfoldable pub fault_of : Arc → Option Fault
 fault_of a =
-    if ltb last_node a.tail || ltb last_node a.head then Node
-    else (if eqb a.tail a.head then EqualEnds
-    else (if ltb most_arc_metres a.metres then Length
-    else Sound))
+    if ltb last_node a.tail || ltb last_node a.head then Some Node
+    else (if eqb a.tail a.head then Some EqualEnds
+    else (if ltb most_arc_metres a.metres then Some Length
+    else None))
 
 -- the number of each
 abbrev pub fault_number : Fault → ℕ
-fault_number Sound = 0
 fault_number Node = 20
 fault_number EqualEnds = 21
 fault_number Length = 22
 
 -- the number of an arc's first fault; 0 for a sound arc
 abbrev pub arc_number : Arc → ℕ
-arc_number a = fault_number (fault_of a)
+arc_number a = option_map_or fault_number (fault_of a) 0
 
 -- of a list counted from i on, the first that has a number other than 0: that number, and 256 times which it is; 0 where none has
 unfoldable pub first_told : {A : Type 0} → (A → ℕ) → ℕ → List A → ℕ

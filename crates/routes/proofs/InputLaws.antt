@@ -1,12 +1,12 @@
 -- The tests of number 12, and what is printed of a reply buffer that the entry has filled. Assumes nothing.
 use mathlib.Core.Path.{◌≡◌, refl, sym, ap, ap₂, ◌∙◌, subst}
-use mathlib.Core.Bool.{Bool, true, false, not, true≢false}
+use mathlib.Core.Bool.{Bool, true, false, true≢false}
 use mathlib.Core.List.{List, [], ◌∷◌, ◌++◌, append-nil}
 use Prim.Native.Nat.{ℕ, ◌≤◌, ◌<◌}
 use native.Mathlib.Omega.{arith}
-use lib.Dec.{eqb, ltb}
+use lib.Dec.{ltb}
 use lib.ListN.{length, get_or, drop, length-append, drop_of_length-le}
-use borrow.Author.Tests.{ltb-true, ltb-false, lt-ltb, le-ltb, eq-eqb, ne_eqb}
+use borrow.Author.Tests.{ltb-true, ltb-false, lt-ltb}
 use Rattle.std.specs.Prelude.{if◌then◌else◌}
 use Rattle.octets.specs.Puts.{Puts}
 use Rattle.problem.specs.Table.{reply_size, number_at}
@@ -21,14 +21,6 @@ use Rattle.problem.proofs.SaidLaws.{reply_size_lem}
 pub faulty_short : (input : List ℕ) → length input < 16 → faulty input ≡ true
 unfolding faulty
 faulty_short input h = rw (lt-ltb (length input) 16 h)
-
-pub faulty_low : (input : List ℕ) → 16 ≤ length input → (number_at input 2 2 ≡ 0 → ⊥) → faulty input ≡ true
-unfolding faulty
-faulty_low input h e = rw (le-ltb (length input) 16 h, ne_eqb (number_at input 2 2) 0 e)
-
-pub faulty_high : (input : List ℕ) → 16 ≤ length input → number_at input 2 2 ≡ 0 → faulty input ≡ not (eqb (number_at input 12 4) 0)
-unfolding faulty
-faulty_high input h e = rw (le-ltb (length input) 16 h, eq-eqb (number_at input 2 2) 0 e)
 
 pub output_fault : (input reply : List ℕ) → faulty input ≡ true → printed (record { number = 12; reply = reply }) ≡ output input
 unfolding output printed

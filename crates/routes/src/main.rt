@@ -15,16 +15,11 @@ const REQUEST_BYTES: usize = 16;
 const INPUT_ROOM: usize = REQUEST_BYTES + problem::MOST_TABLE_BYTES + 1;
 
 // Whether the input is too short for a request, or a spare byte of it is not zero.
+#[tactic(auto, unfolding(problem::specs::Printed::faulty))]
 fn is_faulty(input: &[u8]) -> bool
     ensures { result ≡ faulty input.now }
 {
-    if input.len() < REQUEST_BYTES {
-        return true;
-    }
-    if octets::number2(input, 2) != 0 {
-        return true;
-    }
-    octets::number4(input, 12) != 0
+    input.len() < REQUEST_BYTES || octets::number2(input, 2) != 0 || octets::number4(input, 12) != 0
 }
 
 // Plans what the input asks for.
@@ -32,8 +27,8 @@ fn plan(input: &[u8], reply: &mut [u8]) -> u32
     requires { 16 ≤ length input.now }
     ensures { Called (drop 16 input.now) (request_of input.now) reply.old result reply.new }
 {
-    let source = octets::wide(input[0]);
-    let terminal = octets::wide(input[1]);
+    let source = u32::from(input[0]);
+    let terminal = u32::from(input[1]);
     let reach = octets::number4(input, 4);
     let allowance = octets::number4(input, 8);
     entry::feshangul_plan(
@@ -56,10 +51,11 @@ fn respond(input: &[u8], out: &mut [u8]) -> usize
     if is_faulty(input) {
         return print::render(INPUT_FAULT, &reply, out);
     }
-    let n = plan(input, &mut reply);
-    print::render(n, &reply, out)
+    let number = plan(input, &mut reply);
+    print::render(number, &reply, out)
 }
 
+// By the kit's crate io, whose calls give no error: whatever ends the input, what came before is what is planned, and the exit status is 0.
 fn main() {
     let mut input = [0u8; INPUT_ROOM];
     let n = io::read_full(0, &mut input);

@@ -1,10 +1,8 @@
 pub mod StoreLaws
 pub mod FreeLaws
 pub mod RelaxLaws
-pub mod SearchLaws
-pub mod WalkLaws
+pub mod FreeArcsLaws
 pub mod FinishLaws
-pub mod TailsLaws
 pub mod NearestLaws
 pub mod FairLaws
 pub mod MovedLaws

@@ -19,9 +19,8 @@ use Rattle.side.specs.declared.Distance.{Distance}
 use Rattle.side.specs.Side.{entry_at, reached_at, metres_at}
 use Rattle.side.specs.Relaxing.{relaxed_by, finished_in, with_tail, tails_into}
 use Rattle.side.proofs.RelaxLaws.{metres_by, gains, nearer, Gained, gains_gained, gains_not, gains_barred, relaxed_nearer, gains_stays, nearer_lower, nearer_idle, entry_other, reached_tail, metres_tail}
-use Rattle.side.proofs.SearchLaws.{other_head, exposed, free_into_lem}
-use Rattle.side.proofs.FinishLaws.{relaxed_not, relaxed_gains, relaxed_idle}
-use Rattle.side.proofs.TailsLaws.{tails_not, tails_free}
+use Rattle.side.proofs.FreeArcsLaws.{other_head, exposed, free_into_lem}
+use Rattle.side.proofs.FinishLaws.{relaxed_not, relaxed_gains, relaxed_idle, tails_not, tails_free}
 use Rattle.side.proofs.FairLaws.{Fair, fair_nearer}
 
 -- ---- one entry

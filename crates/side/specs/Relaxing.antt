@@ -1,16 +1,13 @@
 -- Relaxing: what an arc does to the entries of its tail and its head, what is done when a node is finished, and how nodes are opened. Assumes nothing.
-use Rattle.std.specs.Prelude.{◌≡◌, Bool, true, false, ◌&&◌, ◌||◌, not, ℕ, ◌+◌, ◌^◌, ◌≤◌, ◌<◌, eqb, ltb, length, get_or, set, replicate, if◌then◌else◌}
+use Rattle.std.specs.Prelude.{◌≡◌, Bool, true, ◌&&◌, ◌||◌, not, ℕ, ◌+◌, ◌^◌, ◌≤◌, ◌<◌, eqb, ltb, length, get_or, set, replicate, drop, filter, if◌then◌else◌}
 use mathlib.Core.List.{List, foldl}
 use Rattle.laws.specs.Sets.{bit, with}
 use Rattle.problem.specs.declared.Arc.{Arc}
 use Rattle.problem.specs.declared.Exposure.{Exposure}
-use Rattle.problem.specs.Table.{last_node, nodes, most_in_table, most_reach, arcs_of, all_sound}
+use Rattle.problem.specs.Table.{last_node, nodes, most_reach}
 use Rattle.problem.specs.Exposures.{of_arc, disjoint}
 use Rattle.problem.specs.Routes.{arc_at}
-use Rattle.chain.specs.declared.End.{End}
-use Rattle.chain.specs.Chain.{end_of, Chain}
 use Rattle.side.specs.declared.Distance.{Distance}
-use Rattle.side.specs.declared.Free.{Free}
 use Rattle.side.specs.Side.{unreached, metres_at}
 
 -- ---- two entries and an arc between them
@@ -51,28 +48,15 @@ relaxed_by banned v entries a = if free_into banned v a then relaxed_in entries 
 unfoldable pub finished_in : (banned : Exposure) (v : ℕ) → List Distance → List Arc → List Distance
 finished_in banned v entries arcs = foldl (relaxed_by banned v) entries arcs
 
--- a table's arcs, chained by their heads
-pub record Chained (table into : List ℕ) : Type 0 where
-  pub few : length (arcs_of table) ≤ most_in_table
-  pub chained : Chain (end_of End.Head) (arcs_of table) into
-
--- what a table, its arcs chained by their heads, and entries must be for v to be finished
-pub record Finishing (table into : List ℕ) (entries : List Distance) (v : ℕ) : Type 0 where
-  pub sound : all_sound (arcs_of table) ≡ true
-  pub chained : Chained table into
+-- what entries must be for v to be finished
+pub record Finishing (entries : List Distance) (v : ℕ) : Type 0 where
   pub node : v ≤ last_node
   pub size : length entries ≡ nodes
   pub near : (get_or entries v unreached).metres ≤ most_reach
 
--- from arc i on, f is the next free arc into v; where there is none, its number is that of arcs
-pub record FreeNext (banned : Exposure) (v : ℕ) (arcs : List Arc) (i : ℕ) (f : Free) : Type 0 where
-  pub from : i ≤ f.arc
-  pub to : f.arc ≤ length arcs
-  pub skipped : (k : ℕ) → i ≤ k → k < f.arc → free_into banned v (arc_at arcs k) ≡ false
-  pub here : f.arc < length arcs → free_into banned v (arc_at arcs f.arc) ≡ true
-  pub same_found : f.found ≡ ltb f.arc (length arcs)
-  pub same_tail : f.tail ≡ (arc_at arcs f.arc).tail
-  pub same_metres : f.metres ≡ (arc_at arcs f.arc).metres
+-- the free arcs, from arc k on, into the node that arc k leads into
+unfoldable pub frees_from : (banned : Exposure) → List Arc → (k : ℕ) → List Arc
+frees_from banned arcs k = filter (free_into banned (arc_at arcs k).head) (drop k arcs)
 
 -- ---- outward from the terminal
 

@@ -1,18 +1,20 @@
 // The side table: for each node the shortest length to the terminal over arcs that are exposed to nothing banned (01, When a reply is settled).
 #![tactic(auto)]
 
-ghost use Rattle.std.specs.Prelude.{◌≡◌, true, ◌+◌, ◌≤◌, ◌<◌, ◌^◌, length};
+ghost use Rattle.std.specs.Prelude.{◌≡◌, true, ◌+◌, ◌≤◌, ◌<◌, ◌^◌, length, filter};
+ghost use Rattle.std.specs.Iterator.{YieldsFirst, item_count};
 ghost use Rattle.problem.specs.Table.{last_node, nodes, most_in_table, arcs_of, all_sound};
 ghost use Rattle.problem.specs.Exposures.{of_arc, disjoint};
-ghost use Rattle.problem.specs.Routes.{arc_at};
 ghost use Rattle.chain.specs.declared.End.{End};
-ghost use Rattle.chain.specs.Chain.{end_of, Chain};
+ghost use Rattle.chain.specs.Chain.{end_of, ChainedBy};
 ghost use Rattle.side.specs.Side.{SideTable};
-ghost use Rattle.side.specs.Relaxing.{Fits, is_nearer, nearer_of, relaxed_in, start_of, Nearest, Chained, FreeNext, Finishing, finished_in, tails_into};
+ghost use Rattle.side.specs.Relaxing.{Fits, is_nearer, nearer_of, relaxed_in, start_of, Nearest, free_into, frees_from, Finishing, finished_in, tails_into};
 
-use problem::{Arc, Exposure};
+use chain::Chain;
+use problem::{ARC_BYTES, Arc, Exposure, NODES};
 
-// What the table says of a node: the shortest length, and whether the terminal can be reached at all.
+// What the table says of a node: the shortest length, and whether the terminal can be reached at all. Two fields and no Option: 01 has a lent slice of such
+// structs relaxed arc by arc.
 #[derive(Clone, Copy)]
 pub struct Distance {
     pub metres: u32,
@@ -20,17 +22,12 @@ pub struct Distance {
 }
 
 // Whether an arc of these metres brings its tail nearer, by the entries of its tail and its head.
+#[tactic(auto, unfolding(crate::specs::Relaxing::is_nearer))]
 fn is_nearer(tail: Distance, head: Distance, metres: u32) -> bool
     requires { head.metres + metres < 2 ^ 32 }
     ensures { result ≡ is_nearer tail head metres }
 {
-    if !head.reached {
-        return false;
-    }
-    if !tail.reached {
-        return true;
-    }
-    head.metres + metres < tail.metres
+    head.reached && (!tail.reached || head.metres + metres < tail.metres)
 }
 
 // The tail's entry once the arc is relaxed: over the arc and on as its head's entry says, where that is nearer.
@@ -38,12 +35,13 @@ fn nearer(tail: Distance, head: Distance, metres: u32) -> Distance
     requires { head.metres + metres < 2 ^ 32 }
     ensures { result ≡ nearer_of tail head metres }
 {
-    if !is_nearer(tail, head, metres) {
-        return tail;
-    }
-    Distance {
-        metres: head.metres + metres,
-        reached: true,
+    if is_nearer(tail, head, metres) {
+        Distance {
+            metres: head.metres + metres,
+            reached: true,
+        }
+    } else {
+        tail
     }
 }
 
@@ -52,14 +50,11 @@ fn relax(entries: &mut [Distance], tail: usize, head: usize, metres: u32)
     requires { Fits entries.old tail head metres }
     ensures { entries.new ≡ relaxed_in entries.old tail head metres }
 {
-    let from = entries[tail];
-    let to = entries[head];
-    let new = nearer(from, to, metres);
-    entries[tail] = new;
+    entries[tail] = nearer(entries[tail], entries[head], metres);
 }
 
 // The entries before any arc is relaxed: only the terminal is reached.
-fn start(terminal: usize) -> [Distance; problem::NODES]
+fn start(terminal: usize) -> [Distance; NODES]
     requires { terminal ≤ last_node }
     ensures { result ≡ start_of terminal }
 {
@@ -67,7 +62,7 @@ fn start(terminal: usize) -> [Distance; problem::NODES]
         metres: 0,
         reached: false,
     };
-    let mut entries = [unreached; problem::NODES];
+    let mut entries = [unreached; NODES];
     entries[terminal] = Distance {
         metres: 0,
         reached: true,
@@ -76,15 +71,15 @@ fn start(terminal: usize) -> [Distance; problem::NODES]
 }
 
 // The nearest of some nodes. No others are looked at: from the lowest on, each is taken away.
-fn nearest(entries: [Distance; problem::NODES], among: u64) -> u8
+fn nearest(entries: &[Distance; NODES], among: u64) -> u8
     requires { (0 < among) × (among < 2 ^ nodes) }
-    ensures { Nearest entries among result }
+    ensures { Nearest entries.now among result }
 {
     let mut best = sets::lowest(among);
     let mut rest = among & (among - 1);
     while rest != 0 {
         let v = sets::lowest(rest);
-        rest = rest & (rest - 1);
+        rest &= rest - 1;
         let here = entries[v as usize];
         let there = entries[best as usize];
         if here.metres < there.metres {
@@ -94,139 +89,103 @@ fn nearest(entries: [Distance; problem::NODES], among: u64) -> u8
     best
 }
 
-// The next free arc into a node. Where there is none, `found` is false and `arc` is the number of arcs.
-#[derive(Clone, Copy)]
-struct Free {
-    found: bool,
-    arc: usize,
-    tail: usize,
-    metres: u32,
-}
-
 // Whether the arc is free. Mostly nothing is banned, and then what it is exposed to is not looked at.
 fn is_free(a: Arc, banned: Exposure) -> bool
     ensures { result ≡ disjoint (of_arc a) banned }
 {
-    if exposure::is_nothing(banned) {
-        return true;
-    }
-    let own = exposure::of_arc(a);
-    exposure::is_disjoint(own, banned)
+    exposure::is_nothing(banned) || exposure::is_disjoint(exposure::of_arc(a), banned)
 }
 
-// The first free arc from arc i on, along the chain of the arcs into i's head.
-fn free_from(table: &[u8], into: &[u8], i: usize, banned: Exposure) -> Free
-    requires { Chained table.now into.now × (i ≤ length (arcs_of table.now)) }
-    ensures { FreeNext banned (arc_at (arcs_of table.now) i).head (arcs_of table.now) i result }
-{
-    let count = table.len() / problem::ARC_BYTES;
-    let mut k = i;
-    while k < count {
-        let a = arcs::arc_at(table, k);
-        if is_free(a, banned) {
-            return Free {
-                found: true,
-                arc: k,
-                tail: a.tail as usize,
-                metres: a.metres,
-            };
+// A sound table, its arcs chained by their heads, and what is banned: the arcs that are exposed to nothing of that are free.
+#[derive(Clone, Copy)]
+struct Arcs<'a> {
+    table: &'a [u8],
+    into: &'a Chain,
+    banned: Exposure,
+    ghost few: { length (arcs_of table.now) ≤ most_in_table },
+    ghost sound: { all_sound (arcs_of table.now) ≡ true },
+    ghost chained: { ChainedBy (end_of End.Head) (arcs_of table.now) into.now },
+}
+
+impl<'a> Arcs<'a> {
+    // The free arcs into v.
+    fn free_into(&self, v: u8) -> FreeArcs<'a>
+        requires { v ≤ last_node }
+        ensures { let own = result.arcs in frees_from own.banned (arcs_of own.table.now) result.next ≡ filter (free_into self.now.banned v) (arcs_of self.now.table.now) }
+    {
+        FreeArcs {
+            arcs: *self,
+            next: self.into.first(v) as usize,
         }
-        k = chain::next(into, k) as usize;
-    }
-    Free {
-        found: false,
-        arc: count,
-        tail: 0,
-        metres: 0,
     }
 }
 
-// The first free arc into v.
-fn first_free(table: &[u8], into: &[u8], v: u8, banned: Exposure) -> Free
-    requires { Chained table.now into.now × (v ≤ last_node) }
-    ensures { FreeNext banned v (arcs_of table.now) 0 result }
-{
-    let i = chain::first(into, v) as usize;
-    free_from(table, into, i, banned)
+// The free arcs into a node, from arc `next` on.
+#[derive(Drop)]
+struct FreeArcs<'a> {
+    arcs: Arcs<'a>,
+    next: usize,
+    ghost inside: { next ≤ length (arcs_of arcs.table.now) },
 }
 
-// The next free arc into the head of arc i, behind it.
-fn next_free(table: &[u8], into: &[u8], i: usize, banned: Exposure) -> Free
-    requires { Chained table.now into.now × (i < length (arcs_of table.now)) }
-    ensures { FreeNext banned (arc_at (arcs_of table.now) i).head (arcs_of table.now) (i + 1) result }
-{
-    let j = chain::next(into, i) as usize;
-    free_from(table, into, j, banned)
+impl Iterator for FreeArcs<'_> {
+    type Item = Arc;
+
+    ghost remaining = { item_count (λ s. frees_from s.arcs.banned (arcs_of s.arcs.table.now) s.next) };
+
+    ghost next_gives = { YieldsFirst (λ s. frees_from s.arcs.banned (arcs_of s.arcs.table.now) s.next) };
+
+    fn next(&mut self) -> Option<Arc> {
+        let arcs = self.arcs;
+        let count = arcs.table.len() / ARC_BYTES;
+        while self.next < count {
+            let a = arcs::arc_at(arcs.table, self.next);
+            self.next = arcs.into.next(self.next) as usize;
+            if is_free(a, arcs.banned) {
+                return Some(a);
+            }
+        }
+        None
+    }
 }
 
-// Finishes v in a lent table: relaxes every free arc into v, one after the other.
-fn finish(entries: &mut [Distance], table: &[u8], into: &[u8], v: u8, banned: Exposure)
-    requires { Finishing table.now into.now entries.old v }
-    ensures { entries.new ≡ finished_in banned v entries.old (arcs_of table.now) }
+// Finishes v in a lent table: relaxes every free arc into v, one after the other, and returns the tails of these arcs.
+fn finish(entries: &mut [Distance], arcs: &Arcs, v: u8) -> u64
+    requires { Finishing entries.old v }
+    ensures entries { entries.new ≡ finished_in arcs.now.banned v entries.old (arcs_of arcs.now.table.now) }
+    ensures tails { result ≡ tails_into arcs.now.banned v (arcs_of arcs.now.table.now) }
 {
     let head = v as usize;
-    let mut free = first_free(table, into, v, banned);
-    while free.found {
-        relax(entries, free.tail, head, free.metres);
-        free = next_free(table, into, free.arc, banned);
-    }
-}
-
-// Lends a table to `finish`, so that its own callers hold theirs by value.
-fn finish_in(
-    entries: [Distance; problem::NODES],
-    table: &[u8],
-    into: &[u8],
-    v: u8,
-    banned: Exposure,
-) -> [Distance; problem::NODES]
-    requires { Finishing table.now into.now entries v }
-    ensures { result ≡ finished_in banned v entries (arcs_of table.now) }
-{
-    let mut lent = entries;
-    finish(&mut lent, table, into, v, banned);
-    lent
-}
-
-// The tails of the free arcs into v.
-fn tails_into(table: &[u8], into: &[u8], v: u8, banned: Exposure) -> u64
-    requires chained { Chained table.now into.now × (v ≤ last_node) }
-    requires table_value { all_sound (arcs_of table.now) ≡ true }
-    ensures { result ≡ tails_into banned v (arcs_of table.now) }
-{
-    let mut tails: u64 = 0;
-    let mut free = first_free(table, into, v, banned);
-    while free.found {
-        tails = sets::with(tails, free.tail as u8);
-        free = next_free(table, into, free.arc, banned);
+    let mut tails = 0;
+    for a in arcs.free_into(v) {
+        relax(entries, a.tail as usize, head, a.metres);
+        tails = sets::with(tails, a.tail);
     }
     tails
 }
 
 // The side table, filled from the terminal outward: a node is open where it is reached and not finished, and each time the nearest open one is finished.
 // The entries are lent once a node; which nodes are finished is one word, and so is which are open. `into`, the table's arcs chained by their heads, is made
-// once by the caller, lent and only read. What is made stands in a local of its own, the form that is covered.
-pub fn side_table(
-    table: &[u8],
-    into: &[u8],
-    terminal: u8,
-    banned: Exposure,
-) -> [Distance; problem::NODES]
+// once by the caller, lent and only read.
+pub fn side_table(table: &[u8], into: &Chain, terminal: u8, banned: Exposure) -> [Distance; NODES]
     requires terminal_le_last_node { terminal ≤ last_node }
     requires table_value { all_sound (arcs_of table.now) ≡ true }
     requires table_len_bound { length (arcs_of table.now) ≤ most_in_table }
-    requires chain { Chain (end_of End.Head) (arcs_of table.now) into.now }
+    requires chain { ChainedBy (end_of End.Head) (arcs_of table.now) into.now }
     ensures { SideTable (arcs_of table.now) terminal banned result }
 {
+    let arcs = Arcs {
+        table,
+        into,
+        banned,
+    };
     let mut entries = start(terminal as usize);
     let mut finished: u64 = 0;
     let mut opened = sets::with(0, terminal);
     while opened != 0 {
-        let v = nearest(entries, opened);
-        let made = finish_in(entries, table, into, v, banned);
-        entries = made;
+        let v = nearest(&entries, opened);
+        let tails = finish(&mut entries, &arcs, v);
         finished = sets::with(finished, v);
-        let tails = tails_into(table, into, v, banned);
         opened = sets::without(opened | tails, finished);
     }
     entries

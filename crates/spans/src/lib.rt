@@ -10,18 +10,15 @@ ghost use Rattle.spans.specs.Marks.{SomeSpan, NoSpan, respanned, marked_record, 
 
 use problem::ARC_BYTES;
 
-// Whether some arc has a span.
+// Whether some arc has a span. By a `for`: what `any` finds among numbers would have to be brought to the arcs, by a longer proof than this loop has.
 pub fn any(table: &[u8]) -> bool
     ensures { (result ≡ true → SomeSpan (arcs_of table.now)) × (result ≡ false → NoSpan (arcs_of table.now)) }
 {
-    let n = table.len() / ARC_BYTES;
-    let mut k: usize = 0;
-    while k < n {
+    for k in 0..table.len() / ARC_BYTES {
         let a = arcs::arc_at(table, k);
         if a.span != 0 {
             return true;
         }
-        k = k + 1;
     }
     false
 }
@@ -32,13 +29,11 @@ fn first_with(table: &[u8], span: u16) -> usize
     ensures { (result ≡ first_with span 0 (arcs_of table.now)) × (result ≤ most_table_bytes) }
 {
     let n = table.len() / ARC_BYTES;
-    let mut k: usize = 0;
-    while k < n {
+    for k in 0..n {
         let a = arcs::arc_at(table, k);
         if a.span == span {
             return k;
         }
-        k = k + 1;
     }
     n
 }
@@ -81,11 +76,8 @@ pub fn put_all(out: &mut [u8], table: &[u8])
     requires { (length table.now ≤ length out.old) × (length table.now ≤ most_table_bytes) }
     ensures { out.new ≡ over (marked_table table.now) out.old }
 {
-    let n = table.len() / ARC_BYTES;
-    let mut at: usize = 0;
-    let mut k: usize = 0;
-    while k < n {
+    let mut at = 0;
+    for k in 0..table.len() / ARC_BYTES {
         at = put_marked(out, at, table, k);
-        k = k + 1;
     }
 }

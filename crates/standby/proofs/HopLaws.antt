@@ -10,7 +10,6 @@ use Rattle.laws.specs.Sets.{bit}
 use Rattle.laws.proofs.SetLaws.{bit_le_one}
 use Rattle.problem.specs.declared.Arc.{Arc}
 use Rattle.problem.specs.declared.Exposure.{Exposure}
-use Rattle.problem.specs.Exposures.{of_arc, joined, sharing}
 use Rattle.problem.specs.Routes.{Mesh}
 use Rattle.net.specs.declared.Behind.{Behind}
 use Rattle.net.specs.Search.{onto}
@@ -18,30 +17,25 @@ use Rattle.standby.specs.declared.Hop.{Hop}
 use Rattle.standby.specs.declared.Hop.TheVariants.{Passed, Ends, Leads}
 use Rattle.standby.specs.Standby.{key_over, hop_of}
 
-abbrev tag : Hop → ℕ
+abbrev tag : Hop Behind → ℕ
 tag Passed = 0
 tag (Ends k) = 1
-tag (Leads h e n) = 2
+tag (Leads h e) = 2
 
-abbrev key_in : Hop → ℕ
+abbrev key_in : Hop Behind → ℕ
 key_in Passed = 0
 key_in (Ends k) = k
-key_in (Leads h e n) = 0
+key_in (Leads h e) = 0
 
-abbrev head_in : Hop → ℕ
+abbrev head_in : Hop Behind → ℕ
 head_in Passed = 0
 head_in (Ends k) = 0
-head_in (Leads h e n) = h
+head_in (Leads h e) = h
 
-abbrev behind_in : Behind → Hop → Behind
+abbrev behind_in : Behind → Hop Behind → Behind
 behind_in b Passed = b
 behind_in b (Ends k) = b
-behind_in b (Leads h e n) = e
-
-abbrev shared_in : Hop → ℕ
-shared_in Passed = 0
-shared_in (Ends k) = 0
-shared_in (Leads h e n) = n
+behind_in b (Leads h e) = e
 
 module _ (m : Mesh) (lower : ℕ) (main : Exposure) (door last least : ℕ) (b : Behind) (i : ℕ) (a : Arc) where
   abbrev to : ℕ
@@ -50,10 +44,7 @@ module _ (m : Mesh) (lower : ℕ) (main : Exposure) (door last least : ℕ) (b :
   abbrev key : ℕ
   key = key_over lower main door b a
 
-  abbrev shared : ℕ
-  shared = sharing main (joined b.exposure (of_arc a))
-
-  abbrev hop : Hop
+  abbrev hop : Hop Behind
   hop = hop_of m lower main door last least b i a
 
   -- why an arc is passed over: its head was met before; all that goes over it is past the reach; none of it is better; or it is the arc that no standby may end with
@@ -94,16 +85,16 @@ module _ (m : Mesh) (lower : ℕ) (main : Exposure) (door last least : ℕ) (b :
   unfolding hop_of
   hop_ends o t ne = rw (not_met o.new, le-ltb m.reach to o.in_reach, lt-leb least key o.better, eq-eqb _ _ t, ne_eqb i last ne)
 
-  pub hop_leads : Opens → (a.head ≡ m.terminal → ⊥) → hop ≡ Leads a.head (onto b a) shared
+  pub hop_leads : Opens → (a.head ≡ m.terminal → ⊥) → hop ≡ Leads a.head (onto b a)
   unfolding hop_of
   hop_leads o t = rw (not_met o.new, le-ltb m.reach to o.in_reach, lt-leb least key o.better, ne_eqb _ _ t)
 
   -- ---- back to them
 
-  data Looked : Hop → Type 0 where
+  data Looked : Hop Behind → Type 0 where
     passed : Skips → Looked Passed
     ends : Opens → a.head ≡ m.terminal → (i ≡ last → ⊥) → Looked (Ends key)
-    leads : Opens → (a.head ≡ m.terminal → ⊥) → Looked (Leads a.head (onto b a) shared)
+    leads : Opens → (a.head ≡ m.terminal → ⊥) → Looked (Leads a.head (onto b a))
 
   looked : Looked hop
   unfolding hop_of
@@ -117,7 +108,7 @@ module _ (m : Mesh) (lower : ℕ) (main : Exposure) (door last least : ℕ) (b :
       }
 
       go : (w : Bool) → eqb (bit b.met a.head) 1 ≡ w → (x : Bool) → ltb m.reach to ≡ x → (y : Bool) → leb least key ≡ y → (z : Bool) → eqb a.head m.terminal ≡ z → (s : Bool) → eqb i last ≡ s
-          → Looked (if w then Passed else (if x then Passed else (if y then Passed else (if z then (if s then Passed else Ends key) else Leads a.head (onto b a) shared))))
+          → Looked (if w then Passed else (if x then Passed else (if y then Passed else (if z then (if s then Passed else Ends key) else Leads a.head (onto b a)))))
       go true e x f y g z h s k = passed (met_before (eqb-true _ 1 e))
       go false e true f y g z h s k = passed (too_far (ltb-true m.reach to f))
       go false e false f true g z h s k = passed (no_better (leb-true least key g))
@@ -128,7 +119,7 @@ module _ (m : Mesh) (lower : ℕ) (main : Exposure) (door last least : ℕ) (b :
   pub passed_is : hop ≡ Passed → Skips
   passed_is e = go looked (ap tag e)
     where
-      go : {h : Hop} → Looked h → tag h ≡ 0 → Skips
+      go : {h : Hop Behind} → Looked h → tag h ≡ 0 → Skips
       go (Looked.passed s) t = s
       go (Looked.ends o g ne) t = absurd (omega arith)
       go (Looked.leads o g) t = absurd (omega arith)
@@ -142,22 +133,21 @@ module _ (m : Mesh) (lower : ℕ) (main : Exposure) (door last least : ℕ) (b :
   pub ends_is : {k : ℕ} → hop ≡ Ends k → Ending k
   ends_is {k} e = go looked (ap tag e) (ap key_in e)
     where
-      go : {h : Hop} → Looked h → tag h ≡ 1 → key_in h ≡ k → Ending k
+      go : {h : Hop Behind} → Looked h → tag h ≡ 1 → key_in h ≡ k → Ending k
       go (Looked.passed s) t q = absurd (omega arith)
       go (Looked.ends o g ne) t q = record { is = sym q; opens = o; at_terminal = g; not_barred = ne }
       go (Looked.leads o g) t q = absurd (omega arith)
 
-  pub record Leading (h : ℕ) (e : Behind) (n : ℕ) : Type 0 where
+  pub record Leading (h : ℕ) (e : Behind) : Type 0 where
     pub head_is : h ≡ a.head
     pub is : e ≡ onto b a
-    pub shared_is : n ≡ shared
     pub opens : Opens
     pub goes_on : a.head ≡ m.terminal → ⊥
 
-  pub leads_is : {h : ℕ} {e : Behind} {n : ℕ} → hop ≡ Leads h e n → Leading h e n
-  leads_is {h} {e} {n} q = go looked (ap tag q) (ap head_in q) (ap (behind_in b) q) (ap shared_in q)
+  pub leads_is : {h : ℕ} {e : Behind} → hop ≡ Leads h e → Leading h e
+  leads_is {h} {e} q = go looked (ap tag q) (ap head_in q) (ap (behind_in b) q)
     where
-      go : {l : Hop} → Looked l → tag l ≡ 2 → head_in l ≡ h → behind_in b l ≡ e → shared_in l ≡ n → Leading h e n
-      go (Looked.passed s) t p q r = absurd (omega arith)
-      go (Looked.ends o g ne) t p q r = absurd (omega arith)
-      go (Looked.leads o g) t p q r = record { head_is = sym p; is = sym q; shared_is = sym r; opens = o; goes_on = g }
+      go : {l : Hop Behind} → Looked l → tag l ≡ 2 → head_in l ≡ h → behind_in b l ≡ e → Leading h e
+      go (Looked.passed s) t p q = absurd (omega arith)
+      go (Looked.ends o g ne) t p q = absurd (omega arith)
+      go (Looked.leads o g) t p q = record { head_is = sym p; is = sym q; opens = o; goes_on = g }

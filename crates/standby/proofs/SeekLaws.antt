@@ -1,5 +1,5 @@
 -- A search with labels: what is left of it behind each arc of a node's chain, and why nothing that was passed over makes a better key. Assumes nothing.
-use mathlib.Core.Path.{◌≡◌, refl, sym, ap, ap₂, ◌∙◌, subst}
+use mathlib.Core.Path.{◌≡◌, sym, ap, ap₂, ◌∙◌, subst}
 use mathlib.Core.List.{List}
 use Prim.Native.Nat.{ℕ, suc, ◌+◌, ◌≤◌, ◌<◌}
 use native.Mathlib.Nat.{zero-add}
@@ -18,9 +18,11 @@ use Rattle.problem.proofs.ExposureLaws.{Inside, exposed_common, exposed_joined, 
 use Rattle.problem.proofs.GrowthLaws.{left_from}
 use Rattle.exposure.proofs.WordLaws.{joined_by_field}
 use Rattle.keys.specs.Keys.{standby_key}
-use Rattle.labels.specs.Labels.{Known, Frame, Cleared, Labelled}
+use Rattle.labels.specs.declared.Labels.{Labels}
+use Rattle.labels.specs.Labels.{Known, Cleared, Labelled}
+use Rattle.net.specs.declared.Net.{Net}
 use Rattle.net.specs.declared.Behind.{Behind}
-use Rattle.net.specs.Net.{first_from, lower_from, word_at, next_of, arcs_in, mesh_in, Net}
+use Rattle.net.specs.Net.{next_of, arcs_in, mesh_in, IsNet, lower_at, first_at}
 use Rattle.net.specs.Search.{behind, onto, onward, searched}
 use Rattle.bars.specs.declared.Barred.{Barred}
 use Rattle.bars.specs.Bars.{barred, start_barred}
@@ -29,7 +31,7 @@ use Rattle.standby.specs.declared.Hop.{Hop}
 use Rattle.standby.specs.declared.Hop.TheVariants.{Passed, Ends, Leads}
 use Rattle.standby.specs.Standby.{offered, EveryDoor, key_over, hop_at, Seeking}
 use Rattle.standby.specs.Ahead.{Quest, quest, Ahead, NoneBelow, least_of}
-use Rattle.standby.specs.Sought.{Labels, Back, Sought}
+use Rattle.standby.specs.Sought.{TrueLabels, Back, Sought}
 use Rattle.standby.proofs.DoorLaws.{way_door, shared_ahead, shared_door}
 use Rattle.standby.proofs.HopLaws.{Skips, passed_is, Ending, ends_is, Leading, leads_is}
 use Rattle.standby.proofs.OfferLaws.{offer_far, offer_no_better, offer_ends, offer_barred}
@@ -48,7 +50,7 @@ same_spans on before own e low high =
     let h : on.high ≡ before.high = ap (λ (x : Exposure). x.high) fields ∙ (ap (bit_or before.high) high ∙ or_zero_r before.high) in
     λ i. record { risks = on.risks; low = l i; high = h i }
 
-module _ (net : List ℕ) (main : Exposure) (last : ℕ) (b : Behind) (at : ℕ) where
+module _ (net : Net) (main : Exposure) (last : ℕ) (b : Behind) (at : ℕ) where
   abbrev m : Mesh
   m = mesh_in net
 
@@ -71,38 +73,36 @@ module _ (net : List ℕ) (main : Exposure) (last : ℕ) (b : Behind) (at : ℕ)
       → Ahead (asked nodes) n x (arc_at arcs k).head (b.metres + (arc_at arcs k).metres) (joined b.exposure (of_arc (arc_at arcs k)))
 
   -- the search stands at arc i of the chain
-  pub record Going (bound : ℕ) (before store : List ℕ) (least i : ℕ) : Type 0 where
+  pub record Going (bound : ℕ) (before store : Labels) (least i : ℕ) : Type 0 where
     pub place : Place net (offered m main last) b at i
-    pub frame : Frame before store
     pub no_more : least ≤ bound
     pub real : searched m (offered m main last) b at bound ≤ left i least
-    pub done : (nodes n x : ℕ) → x ≤ least → Around (asked nodes) n x b → Labels (asked nodes) n x before
-        → ((k : ℕ) → k < i → (arc_at arcs k).tail ≡ at → Over nodes n x k) × Labels (asked nodes) n x store
+    pub done : (nodes n x : ℕ) → x ≤ least → Around (asked nodes) n x b → TrueLabels (asked nodes) n x before
+        → ((k : ℕ) → k < i → (arc_at arcs k).tail ≡ at → Over nodes n x k) × TrueLabels (asked nodes) n x store
 
-  pub going_start : {door : ℕ} → Seeking net main door at b.metres → (bound : ℕ) (store : List ℕ) → Going bound store store bound (word_at net (first_from + at))
+  pub going_start : {door : ℕ} → Seeking net main door at b.metres → (bound : ℕ) (store : Labels) → Going bound store store bound (first_at net at)
   going_start r bound store =
       record {
         place = place_first net (offered m main last) b at r.words r.node;
-        frame = record { size = refl; same = λ k h. refl };
         no_more = omega arith;
         real = omega (arith, left_first net (offered m main last) b at r.words bound r.node r.onward);
         done = λ nodes n x h f l. (λ k c t. absurd ((r.words.first at r.node).skipped k (omega arith) c t), l);
       }
 
   -- an arc in hand
-  pub record InHand (door bound : ℕ) (before store : List ℕ) (least i : ℕ) : Type 0 where
+  pub record InHand (door bound : ℕ) (before store : Labels) (least i : ℕ) : Type 0 where
     pub start : Seeking net main door at b.metres
     pub going : Going bound before store least i
     pub inside : i < length arcs
 
-  module _ {door bound least i : ℕ} {before store : List ℕ} (hand : InHand door bound before store least i) where
+  module _ {door bound least i : ℕ} {before store : Labels} (hand : InHand door bound before store least i) where
     abbrev g : Going bound before store least i
     g = hand.going
 
     abbrev l : i < length arcs
     l = hand.inside
 
-    abbrev words : Net net
+    abbrev words : IsNet net
     words = hand.start.words
 
     abbrev next : ℕ
@@ -112,7 +112,7 @@ module _ (net : List ℕ) (main : Exposure) (last : ℕ) (b : Behind) (at : ℕ)
     arc = arc_at arcs i
 
     abbrev lower : ℕ
-    lower = word_at net (lower_from + (arc_at arcs i).head)
+    lower = lower_at net (arc_at arcs i).head
 
     pub arc_past : i < next_of net i
     arc_past = next_past net (offered m main last) b at words g.place l
@@ -123,12 +123,11 @@ module _ (net : List ℕ) (main : Exposure) (last : ℕ) (b : Behind) (at : ℕ)
     low : (ks : List ℕ) → Way arcs (arc_at arcs i).head m.terminal ks → lower ≤ metres_of arcs ks
     low ks w = words.lower (arc_at arcs i).head node w
 
-    turn : (x : ℕ) (after : List ℕ) → Frame store after → x ≤ least → left i least ≤ left next x
-        → ((nodes n y : ℕ) → y ≤ x → Around (asked nodes) n y b → Labels (asked nodes) n y store → Over nodes n y i × Labels (asked nodes) n y after)
+    turn : (x : ℕ) (after : Labels) → x ≤ least → left i least ≤ left next x
+        → ((nodes n y : ℕ) → y ≤ x → Around (asked nodes) n y b → TrueLabels (asked nodes) n y store → Over nodes n y i × TrueLabels (asked nodes) n y after)
         → Going bound before after x next
-    turn x after o h r f = record {
+    turn x after h r f = record {
       place = place_next net (offered m main last) b at words g.place l;
-      frame = record { size = o.size ∙ g.frame.size; same = λ k z. o.same k z ∙ g.frame.same k z };
       no_more = omega (arith, g.no_more);
       real = omega (arith, g.real);
       done = λ nodes n y p a s.
@@ -148,9 +147,6 @@ module _ (net : List ℕ) (main : Exposure) (last : ℕ) (b : Behind) (at : ℕ)
           | no q ↦ absurd ((next_arc net (offered m main last) b at words g.place l).skipped k (omega (arith, q, z)) c t)
         ]
 
-    same_store : Frame store store
-    same_store = record { size = refl; same = λ k z. refl }
-
     -- what is left where what grows from the head finds x at most
     left_below : (x : ℕ) → bit b.met (arc_at arcs i).head ≡ 0 → ((arc_at arcs i).head ≡ m.terminal → ⊥) → searched m (offered m main last) (onto b (arc_at arcs i)) (arc_at arcs i).head least ≤ x → left i least ≤ left next x
     left_below x e on h = omega (arith, left_onward net (offered m main last) b at words g.place l least e on, left_mono next h)
@@ -158,55 +154,54 @@ module _ (net : List ℕ) (main : Exposure) (last : ℕ) (b : Behind) (at : ℕ)
     no_better_over : (nodes n x : ℕ) → x ≤ key_over lower main door b (arc_at arcs i) → Over nodes n x i
     no_better_over nodes n x h e f = ahead_no_better (asked nodes) lower _ low (λ ks w. shared_ahead hand.start.doors i l b.exposure w) h
 
-    pub going_past : {r : Hop} → r ≡ hop_at net main door last least b i → r ≡ Passed → Going bound before store least (next_of net i)
+    pub going_past : {r : Hop Behind} → r ≡ hop_at net main door last least b i → r ≡ Passed → Going bound before store least (next_of net i)
     going_past e f = go (passed_is m lower main door last least b i (arc_at arcs i) (sym e ∙ f))
       where
         go : Skips m lower main door last least b i (arc_at arcs i) → Going bound before store least next
         go (Skips.met_before n) =
-            turn least store same_store (omega arith) (omega (arith, left_met net (offered m main last) b at words g.place l least n))
+            turn least store (omega arith) (omega (arith, left_met net (offered m main last) b at words g.place l least n))
             (λ nodes k x h a s. (λ c d. ahead_more (asked nodes) b.exposure _ (a.back (arc_at arcs i).head n c) (omega arith) (part_onto main b.exposure (of_arc (arc_at arcs i))), s))
         go (Skips.too_far f) =
-            turn least store same_store (omega arith)
+            turn least store (omega arith)
             (omega (arith, left_idle net (offered m main last) b at words g.place l least (λ ks w x. offer_far m main last (over net (offered m main last) b at i) least ks (omega arith))))
             (λ nodes k x h a s. (λ c d. ahead_far (asked nodes) lower low f, s))
         go (Skips.no_better f) =
-            turn least store same_store (omega arith)
+            turn least store (omega arith)
             (omega (arith, left_idle net (offered m main last) b at words g.place l least (λ ks w x. offer_no_better m main last (over net (offered m main last) b at i) least _ _ ks x (shared_ahead hand.start.doors i l b.exposure w) f)))
             (λ nodes k x h a s. (no_better_over nodes k x (omega (arith, f)), s))
         go (Skips.barred_end n t e) =
-            turn least store same_store (omega arith)
+            turn least store (omega arith)
             (omega (arith, left_there net (offered m main last) b at words g.place l least n t, ap (left next) (offer_barred m main last (over net (offered m main last) b at i) least i e)))
             (λ nodes k x h a s. (λ c d. absurd (d t e), s))
 
-    pub going_ends : {r : Hop} {k : ℕ} → r ≡ hop_at net main door last least b i → r ≡ Ends k → Going bound before store k (next_of net i)
+    pub going_ends : {r : Hop Behind} {k : ℕ} → r ≡ hop_at net main door last least b i → r ≡ Ends k → Going bound before store k (next_of net i)
     going_ends {r} {k} e f = go (ends_is m lower main door last least b i (arc_at arcs i) (sym e ∙ f))
       where
         go : Ending m lower main door last least b i (arc_at arcs i) k → Going bound before store k next
         go o =
-            let near : lower ≡ 0 = ap (λ (v : ℕ). word_at net (lower_from + v)) o.at_terminal ∙ words.lower_terminal in
+            let near : lower ≡ 0 = ap (λ (v : ℕ). lower_at net v) o.at_terminal ∙ words.lower_terminal in
             let to : b.metres + (arc_at arcs i).metres + lower ≡ b.metres + (arc_at arcs i).metres = omega arith in
             let c = over net (offered m main last) b at i in
             let key : k ≡ standby_key (sharing main c.exposure) c.metres = o.is ∙ ap₂ standby_key (shared_door hand.start.doors i l b.exposure o.at_terminal) to in
             let same : left i least ≡ left next k =
             left_there net (offered m main last) b at words g.place l least o.opens.new o.at_terminal
             ∙ ap (Left net (offered m main last) b at next) (offer_ends m main last c least i o.not_barred (omega (arith, o.opens.in_reach)) (omega (arith, o.opens.better, o.is)) ∙ sym key) in
-            turn k store same_store (omega (arith, o.opens.better, o.is)) (omega (arith, same)) (λ nodes n x h a s. (no_better_over nodes n x (omega (arith, o.is)), s))
+            turn k store (omega (arith, o.opens.better, o.is)) (omega (arith, same)) (λ nodes n x h a s. (no_better_over nodes n x (omega (arith, o.is)), s))
 
     -- what the label of the arc's head needs and gives, and the call on it
-    pub record Onto (h : ℕ) (e : Behind) (n : ℕ) : Type 0 where
+    pub record Onto (h : ℕ) (e : Behind) : Type 0 where
       pub is : e ≡ onto b (arc_at arcs i)
-      pub shared_is : n ≡ sharing main e.exposure
       pub seeking : Seeking net main door h e.metres
       pub fewer_nodes : unmet 32 b.met ≡ suc (unmet 32 e.met)
       pub by_label : Known store h e.metres e.exposure → Going bound before store least (next_of net i)
-      pub gives : (x : ℕ) (after : List ℕ) → Sought net main last h e least store after x → Going bound before after x (next_of net i)
+      pub gives : (x : ℕ) (after : Labels) → Sought net main last h e least store after x → Going bound before after x (next_of net i)
 
-    pub going_leads : {r : Hop} {h : ℕ} {e : Behind} {n : ℕ} → r ≡ hop_at net main door last least b i → r ≡ Leads h e n → Onto h e n
-    going_leads {r} {h} {e} {n} p q = go (leads_is m lower main door last least b i (arc_at arcs i) (sym p ∙ q))
+    pub going_leads : {r : Hop Behind} {h : ℕ} {e : Behind} → r ≡ hop_at net main door last least b i → r ≡ Leads h e → Onto h e
+    going_leads {r} {h} {e} p q = go (leads_is m lower main door last least b i (arc_at arcs i) (sym p ∙ q))
       where
-        given : (x : ℕ) (after : List ℕ) → bit b.met (arc_at arcs i).head ≡ 0 → ((arc_at arcs i).head ≡ m.terminal → ⊥) → Sought net main last (arc_at arcs i).head (onto b (arc_at arcs i)) least store after x → Going bound before after x next
+        given : (x : ℕ) (after : Labels) → bit b.met (arc_at arcs i).head ≡ 0 → ((arc_at arcs i).head ≡ m.terminal → ⊥) → Sought net main last (arc_at arcs i).head (onto b (arc_at arcs i)) least store after x → Going bound before after x next
         given x after new on s =
-            turn x after s.frame s.no_more (left_below x new on s.real)
+            turn x after s.no_more (left_below x new on s.real)
             (λ nodes n y p f r.
             let w = s.all nodes n y p (record { back = λ u k c ne. back nodes n y f u (omega (arith, k, bit_with_other b.met (arc_at arcs i).head u ne)) c }) r in
             (λ c d. ahead_fewer (asked nodes) w.0 (omega arith), w.1))
@@ -218,13 +213,12 @@ module _ (net : List ℕ) (main : Exposure) (last : ℕ) (b : Behind) (at : ℕ)
         labelled : bit b.met (arc_at arcs i).head ≡ 0 → ((arc_at arcs i).head ≡ m.terminal → ⊥) → Known store (arc_at arcs i).head (b.metres + (arc_at arcs i).metres) (joined b.exposure (of_arc (arc_at arcs i)))
             → Going bound before store least next
         labelled new on k =
-            turn least store same_store (omega arith) (left_below least new on (fold_less (asked 0) (onto b (arc_at arcs i)) least (onward m (onto b (arc_at arcs i)) (arc_at arcs i).head)))
+            turn least store (omega arith) (left_below least new on (fold_less (asked 0) (onto b (arc_at arcs i)) least (onward m (onto b (arc_at arcs i)) (arc_at arcs i).head)))
             (λ nodes n x h a s. (λ c d. labels_known (asked nodes) store node s k, s))
 
-        go : Leading m lower main door last least b i (arc_at arcs i) h e n → Onto h e n
+        go : Leading m lower main door last least b i (arc_at arcs i) h e → Onto h e
         go o = record {
           is = o.is;
-          shared_is = o.shared_is ∙ ap (λ (c : Behind). sharing main c.exposure) (sym o.is);
           seeking = record {
             words = words;
             doors = hand.start.doors;
@@ -238,17 +232,16 @@ module _ (net : List ℕ) (main : Exposure) (last : ℕ) (b : Behind) (at : ℕ)
         }
 
   -- the loop's end, and the node's own label
-  pub going_end : {door bound least i : ℕ} {before store after : List ℕ} → Seeking net main door at b.metres → Going bound before store least i → length arcs ≤ i
+  pub going_end : {door bound least i : ℕ} {before store after : Labels} → Seeking net main door at b.metres → Going bound before store least i → length arcs ≤ i
       → Labelled at b.metres (common main b.exposure) store after → Sought net main last at b bound before after least
   going_end {door} {bound} {least} {i} {before} {store} {after} r g e keeps = record {
-    frame = record { size = keeps.frame.size ∙ g.frame.size; same = λ k z. keeps.frame.same k z ∙ g.frame.same k z };
     no_more = g.no_more;
     real = omega (arith, g.real, left_last net (offered m main last) b at r.words i least e);
     all = λ nodes n x h. knot (asked nodes) r.onward (end nodes x h) n;
   }
     where
-      end : (nodes x : ℕ) → x ≤ least → (n : ℕ) → Around (asked nodes) n x b → Labels (asked nodes) n x before
-          → Ahead (asked nodes) (suc n) x at b.metres b.exposure × Labels (asked nodes) n x after
+      end : (nodes x : ℕ) → x ≤ least → (n : ℕ) → Around (asked nodes) n x b → TrueLabels (asked nodes) n x before
+          → Ahead (asked nodes) (suc n) x at b.metres b.exposure × TrueLabels (asked nodes) n x after
       end nodes x h n a s =
           let d = g.done nodes n x h a s in
           let w : Ahead (asked nodes) (suc n) x at b.metres b.exposure = ahead_step (asked nodes) r.onward (λ k c t o f. d.0 k (omega arith) t o f) in
@@ -257,17 +250,17 @@ module _ (net : List ℕ) (main : Exposure) (last : ℕ) (b : Behind) (at : ℕ)
 -- ---- from the source
 
 -- nothing is below a bound that what every door shares, over the shortest way, is not below
-pub none_below_door : (net : List ℕ) (main : Exposure) {door : ℕ} (off : Barred) {bound : ℕ} → Net net → EveryDoor (mesh_in net) main door
-    → bound ≤ standby_key door (word_at net (lower_from + (mesh_in net).source)) → NoneBelow (quest (mesh_in net) main off) bound
+pub none_below_door : (net : Net) (main : Exposure) {door : ℕ} (off : Barred) {bound : ℕ} → IsNet net → EveryDoor (mesh_in net) main door
+    → bound ≤ standby_key door (lower_at net (mesh_in net).source) → NoneBelow (quest (mesh_in net) main off) bound
 none_below_door net main {door} off {bound} words doors h =
-    let lower : ℕ = word_at net (lower_from + (mesh_in net).source) in
+    let lower : ℕ = lower_at net (mesh_in net).source in
     let from_none : bound ≤ standby_key door (0 + lower) = omega (arith, h, ap (standby_key door) (zero-add lower)) in record {
       ahead = λ n. ahead_no_better (quest (mesh_in net) main off) lower door (λ ks w. words.lower (mesh_in net).source words.source_node w)
           (λ ks w. rw nothing_joined (way_door doors ks words.ends_differ w)) from_none;
     }
 
-module _ (net : List ℕ) (main : Exposure) (off : Barred) (bound : ℕ) {at met key : ℕ} {e : Exposure} {start before after : List ℕ}
-    (a : at ≡ (mesh_in net).source) (s : met ≡ with off.nodes at) (n : e ≡ to_nothing) (c : Cleared start before) (f : Sought net main off.last at (behind met 0 e) bound before after key) where
+module _ (net : Net) (main : Exposure) (off : Barred) (bound : ℕ) {at met key : ℕ} {e : Exposure} {before after : Labels}
+    (a : at ≡ (mesh_in net).source) (s : met ≡ with off.nodes at) (n : e ≡ to_nothing) (c : Cleared before) (f : Sought net main off.last at (behind met 0 e) bound before after key) where
   abbrev q : Quest
   q = quest (mesh_in net) main off
 
@@ -289,9 +282,6 @@ module _ (net : List ℕ) (main : Exposure) (off : Barred) (bound : ℕ) {at met
   sought_below = record {
     ahead = λ k. ahead_fewer q (from_first.all off.nodes k key (omega arith) (back k) (labels_none q k key c)).0 (omega arith);
   }
-
-  pub sought_frame : Frame start after
-  sought_frame = record { size = f.frame.size ∙ c.frame.size; same = λ k h. f.frame.same k h ∙ c.frame.same k h }
 
   pub sought_least : key ≡ least_of (quest (mesh_in net) main off) bound
   unfolding least_of

@@ -1,3 +1,4 @@
 pub mod Standby
+pub mod Trail
 pub mod Ahead
 pub mod Sought

@@ -13,8 +13,9 @@ use Rattle.laws.specs.Sets.{bit, with, unmet}
 use Rattle.problem.specs.Table.{last_node}
 use Rattle.problem.specs.Routes.{Mesh, arc_at, metres_of, sprout, grow, paths}
 use Rattle.problem.proofs.GrowthLaws.{fold_idle, grow_way, left_from}
+use Rattle.net.specs.declared.Net.{Net}
 use Rattle.net.specs.declared.Behind.{Behind}
-use Rattle.net.specs.Net.{first_from, lower_from, word_at, next_of, arcs_in, mesh_in, apart_only, Net}
+use Rattle.net.specs.Net.{next_of, arcs_in, mesh_in, IsNet, lower_at, first_at}
 use Rattle.net.specs.Search.{start, onto, along, last_of, no_arc, visit, onward, searched}
 use Rattle.net.proofs.SearchLaws.{along_metres, Left, over, Place, place_first, left_first, left_last, place_next, next_past, head_node, fewer, left_met, left_idle, left_there, left_onward, list_from, list_first, list_next}
 use Rattle.look.specs.declared.Leg.TheVariants.{Met, Past, Ends, Leads}
@@ -49,12 +50,12 @@ module _ (only : Bool) (m : Mesh) (w : Window) where
 
 -- ---- the search over the words
 
-module _ (net : List ℕ) (w : Window) (at : ℕ) (b : Behind) where
+module _ (net : Net) (w : Window) (at : ℕ) (b : Behind) where
   abbrev m : Mesh
   m = mesh_in net
 
   abbrev only : Bool
-  only = apart_only net
+  only = net.apart
 
   abbrev end : Tally → Behind → ℕ → Tally
   end = met only m w
@@ -68,8 +69,8 @@ module _ (net : List ℕ) (w : Window) (at : ℕ) (b : Behind) where
     pub none_between : r.tally.over ≡ false → (ks : List ℕ) → Memᴰ ks (onward m b at) → w.hi < b.metres + metres_of (arcs_in net) ks
         → (r.cut ≤ b.metres + metres_of (arcs_in net) ks) ⊎ Memᴰ ks (list_from net end b at i)
 
-  module _ (words : Net net) where
-    pub rest_start : (s : Swept) → at ≤ last_node → (at ≡ m.terminal → ⊥) → Rest s s (word_at net (first_from + at))
+  module _ (words : IsNet net) where
+    pub rest_start : (s : Swept) → at ≤ last_node → (at ≡ m.terminal → ⊥) → Rest s s (first_at net at)
     rest_start s node on =
         record {
           place = place_first net end b at words node;
@@ -113,7 +114,7 @@ module _ (net : List ℕ) (w : Window) (at : ℕ) (b : Behind) where
       head = (arc_at (arcs_in net) i).head
 
       abbrev lower : ℕ
-      lower = word_at net (lower_from + head)
+      lower = lower_at net head
 
       pub arc_past : i < next_of net i
       arc_past = next_past net end b at words rest.place l

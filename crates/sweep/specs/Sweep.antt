@@ -3,8 +3,9 @@ use Rattle.std.specs.Prelude.{ℕ, ◌+◌, ◌≤◌, ◌<◌, Bool, false, ◌
 use mathlib.Core.List.{List, Memᴰ}
 use Rattle.problem.specs.Table.{last_node, most_reach}
 use Rattle.problem.specs.Routes.{Mesh, metres_of, paths}
+use Rattle.net.specs.declared.Net.{Net}
 use Rattle.net.specs.declared.Behind.{Behind}
-use Rattle.net.specs.Net.{mesh_in, apart_only, Net}
+use Rattle.net.specs.Net.{mesh_in, IsNet}
 use Rattle.net.specs.Search.{onward, searched, searched_all}
 use Rattle.tally.specs.declared.Tally.{Tally}
 use Rattle.mains.specs.Mains.{tried}
@@ -24,16 +25,16 @@ abbrev pub swept_tally : (only : Bool) → Mesh → Window → Tally → Tally
 swept_tally only m w t = searched_all m (met only m w) t
 
 -- what a sweep may count on at a node
-pub record Sweeping (net : List ℕ) (hi at metres : ℕ) : Type 0 where
-  pub words : Net net
+pub record Sweeping (net : Net) (hi at metres : ℕ) : Type 0 where
+  pub words : IsNet net
   pub node : at ≤ last_node
   pub onward : at ≡ (mesh_in net).terminal → ⊥
   pub hi_range : hi ≤ most_reach
   pub in_window : metres ≤ hi
 
 -- what a sweep over all that grows from a node makes of a tally, and what it cut off: nothing lies between hi and the cut
-pub record Sweeps (net : List ℕ) (w : Window) (at : ℕ) (b : Behind) (s r : Swept) : Type 0 where
-  pub tally_is : r.tally ≡ searched (mesh_in net) (met (apart_only net) (mesh_in net) w) b at s.tally
+pub record Sweeps (net : Net) (w : Window) (at : ℕ) (b : Behind) (s r : Swept) : Type 0 where
+  pub tally_is : r.tally ≡ searched (mesh_in net) (met net.apart (mesh_in net) w) b at s.tally
   pub cut_falls : r.cut ≤ s.cut
   pub cut_past : w.hi < s.cut → w.hi < r.cut
   pub none_between : r.tally.over ≡ false → (ks : List ℕ) → Memᴰ ks (onward (mesh_in net) b at)

@@ -1,16 +1,17 @@
 // A sweep: every route of a window of lengths is handed to `mains` as a main, in whatever order it is met. It stores no route, and knows nothing of pairs.
 #![tactic(auto)]
 
-ghost use Rattle.std.specs.Prelude.{◌≡◌, ◌≤◌, ltb, length};
+ghost use Rattle.std.specs.Prelude.{◌≡◌, ◌≤◌, false};
 ghost use Rattle.problem.specs.Table.{most_reach};
-ghost use Rattle.net.specs.Net.{Net, word_at, mesh_in, apart_only};
+ghost use Rattle.net.specs.Net.{IsNet, mesh_in};
 ghost use Rattle.net.specs.Search.{behind};
 ghost use Rattle.cores.specs.Cores.{Stored};
-ghost use Rattle.sweep.specs.Sweep.{ended, Sweeping, SweptAll};
-ghost use Rattle.sweep.specs.Run.{run_size, hi_at, swept_in, UnderWay, Cuts, Meets, Walks};
+ghost use Rattle.sweep.specs.Sweep.{Sweeping, SweptAll};
+ghost use Rattle.sweep.specs.Run.{cut_run, ended_run, Walks};
 
+use cores::Store;
 use look::Leg;
-use net::{Behind, NO_LENGTH};
+use net::{Behind, NO_LENGTH, Net};
 use problem::Exposure;
 use tally::Tally;
 
@@ -29,100 +30,38 @@ pub struct Swept {
     pub cut: u64,
 }
 
-// The tally after a route ended with arc `last` within the window's end, with `route` behind it.
-fn end_route(
-    net: &[u64; net::SIZE],
-    store: &mut [u64; cores::OWN_WORDS],
-    w: Window,
-    route: Behind,
-    last: u64,
-    t: Tally,
-) -> Tally
-    requires { Net net.now × (route.metres ≤ most_reach) × Stored net.now store.old }
-    ensures ended { result ≡ ended (apart_only net.now) (mesh_in net.now) w route last t }
-    ensures stored { Stored net.now store.new }
-{
-    if route.metres < w.lo {
-        return t;
-    }
-    mains::try_main(net, store, w.cap, route, last, t)
-}
-
-// A sweep under way in words, the window, the tally and the cut, so that one reference is handed on from call to call and no struct is copied.
-const RUN_WORDS: usize = 8;
-
-const LO: usize = 0;
-
-const HI: usize = 1;
-
-const CAP: usize = 2;
-
-const RANKED: usize = 3;
-
-const LAST: usize = 4;
-
-const BEST: usize = 5;
-
-const OVER: usize = 6;
-
-const CUT: usize = 7;
-
-// A bool as a word.
-fn flag(over: bool) -> u64
-    ensures { ltb 0 result ≡ over }
-{
-    if over {
-        return 1;
-    }
-    0
+// A sweep under way: its window, and what it has come to. One reference to it is handed on from call to call, and no struct is copied.
+#[derive(Drop)]
+struct Run {
+    window: Window,
+    swept: Swept,
 }
 
 // What is cut off is at least `to` metres long.
-fn cut_at(run: &mut [u64; RUN_WORDS], to: u64)
-    requires { length run.old ≡ run_size }
-    ensures { Cuts to run.old run.new }
+fn cut_at(run: &mut Run, to: u64)
+    ensures { run.new ≡ cut_run to run.old }
 {
-    if to < run[CUT] {
-        run[CUT] = to;
-    }
+    run.swept.cut = run.swept.cut.min(to);
 }
 
 // A route ended with arc `last` within the window's end, with `route` behind it.
-fn meet_route(
-    net: &[u64; net::SIZE],
-    run: &mut [u64; RUN_WORDS],
-    store: &mut [u64; cores::OWN_WORDS],
-    route: Behind,
-    last: u64,
-)
-    requires { Net net.now × (route.metres ≤ most_reach) × UnderWay run.old × Stored net.now store.old }
-    ensures meets { Meets (apart_only net.now) (mesh_in net.now) route last run.old run.new }
+fn meet_route(net: &Net, run: &mut Run, store: &mut Store, route: Behind, last: u64)
+    requires { IsNet net.now × (route.metres ≤ most_reach) × Stored net.now store.old }
+    ensures met { run.new ≡ ended_run net.now.apart (mesh_in net.now) route last run.old }
     ensures stored { Stored net.now store.new }
 {
-    let w = Window {
-        lo: run[LO],
-        hi: run[HI],
-        cap: run[CAP],
-    };
-    let t = Tally {
-        ranked: run[RANKED],
-        last: run[LAST],
-        best: run[BEST],
-        over: false,
-    };
-    let u = end_route(net, store, w, route, last, t);
-    run[RANKED] = u.ranked;
-    run[LAST] = u.last;
-    run[BEST] = u.best;
-    run[OVER] = flag(u.over);
+    if route.metres < run.window.lo {
+        return;
+    }
+    run.swept.tally = mains::try_main(net, store, run.window.cap, route, last, run.swept.tally);
 }
 
-// The sweep of what grows from `at`. What lies behind it is exposed to these risks and spans, handed on one by one, which is quicker than a struct of three.
+// The sweep of what grows from `at`. What lies behind it is exposed to these risks and spans, handed on one by one, which is quicker than one struct, by value or lent.
 // Only a route's end passes the cap, so `over` is read after one and after a walk, and not at each arc.
 fn walk(
-    net: &[u64; net::SIZE],
-    run: &mut [u64; RUN_WORDS],
-    store: &mut [u64; cores::OWN_WORDS],
+    net: &Net,
+    run: &mut Run,
+    store: &mut Store,
     at: u64,
     met: u64,
     metres: u64,
@@ -130,27 +69,23 @@ fn walk(
     low: u64,
     high: u64,
 )
-    requires { Sweeping net.now (word_at run.old hi_at) at metres × UnderWay run.old × Stored net.now store.old }
+    requires { Sweeping net.now run.old.window.hi at metres × (run.old.swept.tally.over ≡ false) × Stored net.now store.old }
     ensures walks { Walks net.now at (behind met metres (record { risks = risks; low = low; high = high })) run.old run.new }
     ensures stored { Stored net.now store.new }
 {
-    let mut i = net::first(net, at);
-    while i < net::arc_count(net) {
+    let mut i = net.first(at);
+    while i < net.arc_count() {
         let k = i;
-        i = net::next(net, k);
-        let e = Exposure {
-            risks: risks,
-            low: low,
-            high: high,
-        };
-        match look::look(net, k, met, metres, e, run[HI]) {
+        i = net.next(k);
+        let exposure = Exposure { risks, low, high };
+        match look::look(net, k, met, metres, exposure, run.window.hi) {
             Leg::Met => {}
             Leg::Past(to) => {
                 cut_at(run, to);
             }
             Leg::Ends(route) => {
                 meet_route(net, run, store, route, k);
-                if 0 < run[OVER] {
+                if run.swept.tally.over {
                     return;
                 }
             }
@@ -166,7 +101,7 @@ fn walk(
                     on.exposure.low,
                     on.exposure.high,
                 );
-                if 0 < run[OVER] {
+                if run.swept.tally.over {
                     return;
                 }
             }
@@ -174,41 +109,22 @@ fn walk(
     }
 }
 
-fn swept_in(run: [u64; RUN_WORDS]) -> Swept
-    ensures { result ≡ swept_in run }
-{
-    let t = Tally {
-        ranked: run[RANKED],
-        last: run[LAST],
-        best: run[BEST],
-        over: 0 < run[OVER],
-    };
-    Swept {
-        tally: t,
-        cut: run[CUT],
-    }
-}
-
 // The tally after the routes of one window of lengths; past the cap nothing is walked.
-pub fn sweep(
-    net: &[u64; net::SIZE],
-    store: &mut [u64; cores::OWN_WORDS],
-    w: Window,
-    t: Tally,
-) -> Swept
-    requires { Net net.now × (w.hi ≤ (mesh_in net.now).reach) × Stored net.now store.old }
-    ensures swept { SweptAll (apart_only net.now) (mesh_in net.now) w t result }
+pub fn sweep(net: &Net, store: &mut Store, w: Window, t: Tally) -> Swept
+    requires { IsNet net.now × (w.hi ≤ (mesh_in net.now).reach) × Stored net.now store.old }
+    ensures swept { SweptAll net.now.apart (mesh_in net.now) w t result }
     ensures stored { Stored net.now store.new }
 {
+    let swept = Swept {
+        tally: t,
+        cut: NO_LENGTH,
+    };
     if t.over {
-        return Swept {
-            tally: t,
-            cut: NO_LENGTH,
-        };
+        return swept;
     }
-    let source = net::source(net);
+    let source = net.source();
     let met = sets::with(0, source as u8);
-    let mut run = [w.lo, w.hi, w.cap, t.ranked, t.last, t.best, 0, NO_LENGTH];
+    let mut run = Run { window: w, swept };
     walk(net, &mut run, store, source, met, 0, 0, 0, 0);
-    swept_in(run)
+    run.swept
 }

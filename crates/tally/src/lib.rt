@@ -4,7 +4,8 @@
 ghost use Rattle.std.specs.Prelude.{◌≡◌, ◌<◌, ◌-◌, ◌^◌};
 ghost use Rattle.tally.specs.Tally.{counted};
 
-// How many routes were ranked, the length of the last main, the key of the best pair, and whether there was a main past the cap.
+// How many routes were ranked, the length of the last main, the key of the best pair, and whether there was a main past the cap. That goes on beside the
+// three: a tally past the cap still says them.
 #[derive(Clone, Copy)]
 pub struct Tally {
     pub ranked: u64,
@@ -14,27 +15,26 @@ pub struct Tally {
 }
 
 // The tally after one more main of so many metres, with which the best pair's key is `best`.
+#[tactic(auto, unfolding(crate::specs::Tally::counted))]
 fn count_main(metres: u64, best: u64, t: Tally) -> Tally
     requires { t.ranked < 2 ^ 64 - 1 }
     ensures { result ≡ counted metres best t }
 {
-    let last = laws::larger(t.last, metres);
     Tally {
         ranked: t.ranked + 1,
-        last: last,
-        best: best,
+        last: t.last.max(metres),
+        best,
         over: false,
     }
 }
 
-// Brings a lent tally up to date by one more main (01, When a reply is settled). Thin: the work is `count_main`'s, and the standbys were tried before.
+// Brings a lent tally up to date by one more main (01, When a reply is settled). Thin, as the project's rules want the one function that a tally is lent to: the work is
+// `count_main`'s, and the standbys were tried before.
 fn step(t: &mut Tally, metres: u64, best: u64)
     requires { t.old.ranked < 2 ^ 64 - 1 }
     ensures { t.new ≡ counted metres best t.old }
 {
-    let v = *t;
-    let w = count_main(metres, best, v);
-    *t = w;
+    *t = count_main(metres, best, *t);
 }
 
 // The tally after it was lent to one step. Who calls this holds the tally by value.

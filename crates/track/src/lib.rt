@@ -34,11 +34,12 @@ pub fn extend(t: Track, k: u8, metres: u32, e: Exposure) -> Track
     requires { Fit t × (t.count < most_arcs) × (k < most_in_table) × (t.metres + metres < 2 ^ 32) }
     ensures { Holds result (onward (route_in t) k metres e) }
 {
-    let at = t.count as usize;
-    let mut r = t;
-    r.arcs[at] = k;
-    r.count = t.count + 1;
-    r.metres = t.metres + metres;
-    r.exposure = exposure::joined(t.exposure, e);
-    r
+    let mut arcs = t.arcs;
+    arcs[t.count as usize] = k;
+    Track {
+        arcs,
+        count: t.count + 1,
+        metres: t.metres + metres,
+        exposure: exposure::joined(t.exposure, e),
+    }
 }

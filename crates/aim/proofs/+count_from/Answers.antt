@@ -46,12 +46,6 @@ loop-i-smaller-in-Met t c = fewer_ahead t (goal.at.loop-i-smaller-in-Met t c).Af
 pub loop-i-preserved-in-Met : goal.loop-i-preserved-in-Met
 loop-i-preserved-in-Met t c = on t (goal.at.loop-i-preserved-in-Met t c).After-next-i
 
-pub loop-i-smaller-in-Past : goal.loop-i-smaller-in-Past
-loop-i-smaller-in-Past t c = fewer_ahead t (goal.at.loop-i-smaller-in-Past t c).After-next-i
-
-pub loop-i-preserved-in-Past : goal.loop-i-preserved-in-Past
-loop-i-preserved-in-Past t c = on t (goal.at.loop-i-preserved-in-Past t c).After-next-i
-
 pub loop-i-smaller-in-Ends : goal.loop-i-smaller-in-Ends
 loop-i-smaller-in-Ends t c = fewer_ahead t (goal.at.loop-i-smaller-in-Ends t c).After-next-i
 

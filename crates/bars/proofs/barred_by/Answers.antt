@@ -12,16 +12,16 @@ ends : (c : After-with-ends) → c.with-ends.result ≡ ends_of (mesh_in c.args.
 ends c =
     c.with-ends.ensures ∙ ap₂ with (c.with-source.ensures ∙ ap (with 0) c.source.ensures.0) c.terminal.ensures.0
 
-pub returns-then-apart-eq0 : goal.returns-then-apart-eq0
-returns-then-apart-eq0 c =
-    c.nothing.ensures ∙ barred_nothing (mesh_in c.args.net.now) _ _ _ (sym c.apart.ensures ∙ c.if-apart-eq0.true)
+pub returns-then-not-apart : goal.returns-then-not-apart
+returns-then-not-apart c =
+    c.nothing.ensures ∙ barred_nothing (mesh_in c.args.net.now) _ _ (sym c.apart.ensures ∙ c.if-not-apart.true)
 
 pub returns-then-between-eq0 : goal.returns-then-between-eq0
 returns-then-between-eq0 c =
-    barred_arc _ _ _ _ (λ z. c.if-apart-eq0.false (c.apart.ensures ∙ z)) (ends (goal.at.returns-then-between-eq0 c).After-with-ends) c.without-between.ensures
+    barred_arc _ _ _ (sym c.apart.ensures ∙ c.if-not-apart.false) (ends (goal.at.returns-then-between-eq0 c).After-with-ends) c.without-between.ensures
     c.if-between-eq0.true
 
 pub returns : goal.returns
 returns c =
-    barred_nodes _ _ _ _ (λ z. c.if-apart-eq0.false (c.apart.ensures ∙ z)) (ends (goal.at.returns c).After-with-ends) c.without-between.ensures
+    barred_nodes _ _ _ (sym c.apart.ensures ∙ c.if-not-apart.false) (ends (goal.at.returns c).After-with-ends) c.without-between.ensures
     c.if-between-eq0.false

@@ -1,6 +1,4 @@
--- `chain::chained` meets its contract. The invariant: the bytes are the chain of the arcs from i on (`Built`). The measure: i.
--- Assumes nothing.
-use Prim.Native.Nat.{◌≤◌}
+-- `chain::chained` meets its contract. The invariant: the chain is that of the arcs from i on (`Built`). Assumes nothing.
 use mathlib.Core.Path.{◌≡◌}
 use lib.ListN.{length}
 use Rattle.problem.specs.Table.{arcs_of}
@@ -9,7 +7,4 @@ use Rattle.chain.proofs.BuiltLaws.{Built}
 use Rattle.chain.proofs.chained.Given as goal
 
 abbrev pub invariant-loop-i : goal.invariant-loop-i
-invariant-loop-i l = (l.i ≤ l.n) × (l.n ≡ length (arcs_of l.table)) × Built (end_of l.end) (arcs_of l.table) l.chain l.i
-
-abbrev pub decreases-loop-i : goal.decreases-loop-i
-decreases-loop-i l = l.i
+invariant-loop-i l = (l.n ≡ length (arcs_of l.table)) × Built (end_of l.end) (arcs_of l.table) l.chain l.i

@@ -11,4 +11,4 @@ returns-then-metres-eq0 c = sym (count_none (routes_in c.args.net.now)) ∙ ap (
 
 pub returns : goal.returns
 returns c =
-    swept_shorter _ (mesh_in c.args.net.now) c.args.metres c.args.cap c.if-metres-eq0.false c.requires.net.1 c.requires.net.2 _ c.sweep-s.result.tally refl refl c.sweep-s.ensures.swept.tally_is
+    swept_shorter _ (mesh_in c.args.net.now) c.args.metres c.args.cap c.if-metres-eq0.false c.requires.net.1 c.requires.net.2 _ c.sweep.result.tally refl refl c.sweep.ensures.swept.tally_is

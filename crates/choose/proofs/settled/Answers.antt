@@ -1,8 +1,5 @@
 -- `choose::settled` meets its contract: the pair found is the best of the step where the run ended, and so of the one replied. Assumes nothing.
 use native.Mathlib.Omega.{arith}
-use Rattle.net.specs.Net.{mesh_in, apart_only}
-use Rattle.bars.proofs.BarsLaws.{net_regular}
-use Rattle.choose.proofs.PairingLaws.{step_readable}
 use Rattle.choose.proofs.EndLaws.{at_length, of_length, halved, step_small, chosen_settled}
 use Rattle.choose.proofs.settled.Goals as goal
 
@@ -10,7 +7,7 @@ pub pair_by-p-requires : goal.pair_by-p-requires
 pair_by-p-requires c =
     let a = c.args in
     let l = at_length a.net.now c.requires.0 a.allowance c.requires.1 c.requires.2 in
-    (c.requires.0, step_readable (apart_only a.net.now) (mesh_in a.net.now) (net_regular a.net.now c.requires.0) c.requires.0.reach_range (of_length a.net.now c.requires.0 a.allowance c.requires.1 l), c.requires.3)
+    record { words = (c.requires.0, c.requires.3); of_step = (_, of_length a.net.now c.requires.0 a.allowance c.requires.1 l) }
 
 pub settled_step-step-requires : goal.settled_step-step-requires
 settled_step-step-requires c =

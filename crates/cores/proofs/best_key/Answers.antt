@@ -2,8 +2,8 @@
 use Rattle.cores.proofs.CoreLaws.{least_unraised, least_zero}
 use Rattle.cores.proofs.best_key.Goals as goal
 
-pub returns-then-bound-eq0 : goal.returns-then-bound-eq0
-returns-then-bound-eq0 c = record { least = least_zero _ c.if-bound-eq0.true; stored = c.requires.1 }
+pub returns-then-bound-eq0-clause-least : goal.returns-then-bound-eq0-clause-least
+returns-then-bound-eq0-clause-least c = least_zero _ c.if-bound-eq0.true
 
-pub returns : goal.returns
-returns c = record { least = least_unraised _ c.args.bound _ c.raised-top.ensures c.best-key.ensures.least c.smaller.ensures; stored = c.best-key.ensures.stored }
+pub returns-clause-least : goal.returns-clause-least
+returns-clause-least c = least_unraised _ c.args.bound _ c.raised-top.ensures c.best-key.ensures.least c.min.ensures

@@ -1,33 +1,45 @@
 -- `entry::plan_among` meets its contract: each end of the code is the same end of the definitions' answer. Assumes nothing.
-use mathlib.Core.Path.{sym, ◌∙◌}
+use mathlib.Core.Path.{sym}
 use lib.ListN.{length}
+use Rattle.std.specs.Prelude.{Ok, Err}
+use Rattle.std.proofs.lemmas.Result.{err_from_is_err_and}
 use Rattle.problem.specs.Reply.{mesh_of, Passed}
+use Rattle.problem.proofs.NumberLaws.{refused_some}
 use Rattle.problem.proofs.ReplyLaws.{refusal_passed}
-use Rattle.net.specs.Net.{to_be}
 use Rattle.planner.specs.Planner.{PlannedOver}
-use Rattle.entry.proofs.EntryLaws.{refused, given, fits, around_planned}
-use Rattle.entry.proofs.plan_among.Goals.{After-plan_around-made, Else-n-ne0}
+use Rattle.entry.proofs.EntryLaws.{refused, none_made, pair_made, around_planned}
+use Rattle.entry.proofs.plan_among.Goals.{In_ok-check_around, In_ok-made}
 use Rattle.entry.proofs.plan_among.Goals as goal
 
 -- past the checks
-passed : (c : Else-n-ne0) → Passed c.args.table.now c.args.closed.now c.args.q (length c.args.reply.now)
-passed c = refusal_passed _ _ _ _ (sym c.refusal_around-n.ensures ∙ c.if-n-ne0.false)
+passed : (c : In_ok-check_around) → Passed c.args.table.now c.args.closed.now c.args.q (length c.args.reply.now)
+passed c = refusal_passed _ _ _ _ (sym c.in_ok-check_around.ensures)
 
 -- what is planned
-made : (c : After-plan_around-made) → PlannedOver (to_be c.args.apart) (mesh_of c.args.table.now c.args.closed.now c.args.q) c.args.q.allowance c.plan_around-made.result
-made c = around_planned _ _ _ _ c.read-set.ensures c.plan_around-made.ensures
+made : (c : In_ok-made) → PlannedOver c.args.apart (mesh_of c.args.table.now c.args.closed.now c.args.q) c.args.q.allowance (Ok c.in_ok-made.made)
+made c = around_planned c.args.apart c.args.table.now c.args.closed.now c.args.q (Ok c.in_ok-made.made) c.read-set.ensures c.in_ok-made.ensures
 
-pub returns-then-n-ne0 : goal.returns-then-n-ne0
-returns-then-n-ne0 c = refused _ _ _ _ _ _ c.refusal_around-n.ensures c.if-n-ne0.true
+pub returns-in_err-check_around : goal.returns-in_err-check_around
+returns-in_err-check_around c =
+    let p = err_from_is_err_and c.from_residual.result c.from_residual.ensures.1 in
+    rw (p.1, p.2) (refused _ _ _ _ _ c.in_err-check_around.ensures (refused_some _))
 
 pub read-set-requires : goal.read-set-requires
-read-set-requires c = (passed (goal.at.read-set-requires c).Else-n-ne0).closed_set.whole
+read-set-requires c = (passed (goal.at.read-set-requires c).In_ok-check_around).closed_set.whole
 
-pub plan_around-made-requires : goal.plan_around-made-requires
-plan_around-made-requires c = (passed (goal.at.plan_around-made-requires c).Else-n-ne0).checked
+pub plan_around-requires : goal.plan_around-requires
+plan_around-requires c = (passed (goal.at.plan_around-requires c).In_ok-check_around).checked
+
+pub returns-in_err-made : goal.returns-in_err-made
+returns-in_err-made c =
+    let p = err_from_is_err_and c.from_residual-in_err-made.result c.from_residual-in_err-made.ensures.1 in
+    let none = around_planned c.args.apart c.args.table.now c.args.closed.now c.args.q (Err c.in_err-made.field-0.0) c.read-set.ensures c.in_err-made.ensures in
+    rw (p.1, p.2) (none_made _ _ _ _ _ (passed (goal.at.returns-in_err-made c).In_ok-check_around) none)
 
 pub give-requires : goal.give-requires
-give-requires c = ((passed (goal.at.give-requires c).Else-n-ne0).room, fits (made (goal.at.give-requires c).After-plan_around-made))
+give-requires c =
+    let chosen = (made (goal.at.give-requires c).In_ok-made).chosen in
+    ((passed (goal.at.give-requires c).In_ok-check_around).room, chosen.main_fit, chosen.standby_fit)
 
 pub returns : goal.returns
-returns c = given _ _ _ _ _ (passed (goal.at.returns c).Else-n-ne0) (made (goal.at.returns c).After-plan_around-made) c.give.ensures
+returns c = rw c.give.ensures.0 (pair_made _ _ _ _ _ (passed (goal.at.returns c).In_ok-check_around) (made (goal.at.returns c).In_ok-made) c.give.ensures.1)

@@ -1,4 +1,4 @@
--- `exposure::few_ones` meets its contract. The invariant: what was counted and what is left make the whole. The measure: what is left. Assumes nothing.
+-- The invariant: what was counted and what is left make the whole. The measure: what is left. Assumes nothing.
 use Prim.Native.Nat.{◌+◌, ◌<◌, ◌^◌}
 use mathlib.Core.Path.{◌≡◌}
 use lib.Count.{ones_in}

@@ -1,5 +1,5 @@
 -- `exposure::left_over` meets its contract: where no span is left, none is left over. Assumes nothing.
-use mathlib.Core.Path.{◌≡◌, ap, ◌∙◌}
+use mathlib.Core.Path.{◌≡◌}
 use lib.Bits.{bit_and, bit_or}
 use Rattle.problem.specs.declared.Arc.{Arc}
 use Rattle.problem.specs.declared.Exposure.{Exposure}
@@ -16,8 +16,3 @@ pub returns-then-is_spanless : goal.returns-then-is_spanless
 returns-then-is_spanless c =
     let s = c.is_spanless.ensures c.if-is_spanless.true in
     risks_over _ _ _ s.0 s.1
-
-pub returns : goal.returns
-returns c =
-    let a = c.args in
-    c.common.ensures ∙ ap (common a.left) (c.joined-over.ensures ∙ ap (λ (e : Exposure). joined e a.on) c.of_arc.ensures)

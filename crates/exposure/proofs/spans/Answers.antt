@@ -12,8 +12,3 @@ none e low high = rw (low, high)
 
 pub returns-then-is_spanless : goal.returns-then-is_spanless
 returns-then-is_spanless c = let s = c.is_spanless.ensures c.if-is_spanless.true in (none _ s.0 s.1, omega arith)
-
-pub returns : goal.returns
-unfolding spans_in
-returns c =
-    (omega (arith, c.ones.ensures.0, c.ones-2.ensures.0), omega (arith, c.ones.ensures.1, c.ones-2.ensures.1))

@@ -60,22 +60,22 @@ meet-requires t c =
     let h = in_hand t (goal.at.meet-requires t c).After-look in
     (h.start.words, h.under_way, h.stored, h.inside)
 
-pub returns-then-run-gt0-clause-seeks : goal.returns-then-run-gt0-clause-seeks
-returns-then-run-gt0-clause-seeks t c =
-    let h = in_hand t (goal.at.returns-then-run-gt0-clause-seeks t c).After-look in
-    rest_found (rest_ends h c.in-Ends.is c.meet.ensures.meets) c.if-run-gt0.true (known_ends h c.in-Ends.is c.meet.ensures.meets)
+pub returns-then-is_found-clause-seeks : goal.returns-then-is_found-clause-seeks
+returns-then-is_found-clause-seeks t c =
+    let h = in_hand t (goal.at.returns-then-is_found-clause-seeks t c).After-look in
+    rest_found (rest_ends h c.in-Ends.is c.meet.ensures.meets) (sym c.is_found.ensures ∙ c.if-is_found.true) (known_ends h c.in-Ends.is c.meet.ensures.meets)
 
-pub returns-then-run-gt0-clause-trails : goal.returns-then-run-gt0-clause-trails
-returns-then-run-gt0-clause-trails t c = trails_tested (in_hand t (goal.at.returns-then-run-gt0-clause-trails t c).After-look) c.meet.ensures.same
+pub returns-then-is_found-clause-trails : goal.returns-then-is_found-clause-trails
+returns-then-is_found-clause-trails t c = trails_tested (in_hand t (goal.at.returns-then-is_found-clause-trails t c).After-look) c.meet.ensures.same
 
-pub loop-i-smaller-else-run-gt0 : goal.loop-i-smaller-else-run-gt0
-loop-i-smaller-else-run-gt0 t c = fewer_ahead t (goal.at.loop-i-smaller-else-run-gt0 t c).After-look
+pub loop-i-smaller-else-is_found : goal.loop-i-smaller-else-is_found
+loop-i-smaller-else-is_found t c = fewer_ahead t (goal.at.loop-i-smaller-else-is_found t c).After-look
 
-pub loop-i-preserved-else-run-gt0 : goal.loop-i-preserved-else-run-gt0
-loop-i-preserved-else-run-gt0 t c =
-    let h = in_hand t (goal.at.loop-i-preserved-else-run-gt0 t c).After-look in
+pub loop-i-preserved-else-is_found : goal.loop-i-preserved-else-is_found
+loop-i-preserved-else-is_found t c =
+    let h = in_hand t (goal.at.loop-i-preserved-else-is_found t c).After-look in
     let r = rest_ends h c.in-Ends.is c.meet.ensures.meets in record {
-      under_way = rest_on r c.requires.finding.under_way c.if-run-gt0.false;
+      under_way = rest_on r c.requires.finding.under_way (sym c.is_found.ensures ∙ c.if-is_found.false);
       rest = rw c.next-i.ensures r;
       stored = c.meet.ensures.stored;
       trails = trails_tested h c.meet.ensures.same;
@@ -88,15 +88,13 @@ pub loop-i-preserved-then-shares_too_much : goal.loop-i-preserved-then-shares_to
 loop-i-preserved-then-shares_too_much t c =
     let h = in_hand t (goal.at.loop-i-preserved-then-shares_too_much t c).After-look in record {
       under_way = c.loop-i.invariant.under_way;
-      rest = rw c.next-i.ensures (rest_much h c.in-Leads.is c.want_in-want.ensures (sym c.shares_too_much.ensures ∙ c.if-shares_too_much.true));
+      rest = rw c.next-i.ensures (rest_much h c.in-Leads.is (sym c.shares_too_much.ensures ∙ c.if-shares_too_much.true));
       stored = c.loop-i.invariant.stored;
       trails = c.loop-i.invariant.trails;
     }
 
 pub comes_late-requires : goal.comes_late-requires
-comes_late-requires t c =
-    let h = in_hand t (goal.at.comes_late-requires t c).After-look in
-    (omega (arith, h.stored.sized.least), leads_node h c.in-Leads.is)
+comes_late-requires t c = leads_node (in_hand t (goal.at.comes_late-requires t c).After-look) c.in-Leads.is
 
 pub loop-i-smaller-then-comes_late : goal.loop-i-smaller-then-comes_late
 loop-i-smaller-then-comes_late t c = fewer_ahead t (goal.at.loop-i-smaller-then-comes_late t c).After-look
@@ -104,27 +102,27 @@ loop-i-smaller-then-comes_late t c = fewer_ahead t (goal.at.loop-i-smaller-then-
 pub loop-i-preserved-then-comes_late : goal.loop-i-preserved-then-comes_late
 loop-i-preserved-then-comes_late t c =
     let h = in_hand t (goal.at.loop-i-preserved-then-comes_late t c).After-look in
-    let z = arrived h c.in-Leads.is c.want_in-want.ensures c.comes_late.ensures.arrived in record {
+    let z = arrived h c.in-Leads.is c.comes_late.ensures.arrived in record {
       under_way = c.loop-i.invariant.under_way;
-      rest = rw c.next-i.ensures (rest_late h c.in-Leads.is c.want_in-want.ensures (c.comes_late.ensures.late c.if-comes_late.true));
-      stored = z.0;
-      trails = z.1;
+      rest = rw c.next-i.ensures (rest_late h c.in-Leads.is (c.comes_late.ensures.late c.if-comes_late.true));
+      stored = c.loop-i.invariant.stored;
+      trails = z;
     }
 
 pub seek-requires : goal.seek-requires
 seek-requires t c =
     let h = in_hand t (goal.at.seek-requires t c).After-look in
-    let z = arrived h c.in-Leads.is c.want_in-want.ensures c.comes_late.ensures.arrived in
-    (omega (arith, c.decreases, leads_fewer h c.in-Leads.is), (leads_ready h c.in-Leads.is, (z.0, trails_ahead h c.in-Leads.is z.1)))
+    let z = arrived h c.in-Leads.is c.comes_late.ensures.arrived in
+    (omega (arith, c.decreases, leads_fewer h c.in-Leads.is), (leads_ready h c.in-Leads.is, (h.stored, trails_ahead h c.in-Leads.is z)))
 
 pub put_down-requires : goal.put_down-requires
 put_down-requires t c = leads_room (in_hand t (goal.at.put_down-requires t c).After-look) c.in-Leads.is c.seek.ensures.seeks
 
-pub returns-then-run-gt0-2-clause-seeks : goal.returns-then-run-gt0-2-clause-seeks
-returns-then-run-gt0-2-clause-seeks t c = leads_found (in_hand t (goal.at.returns-then-run-gt0-2-clause-seeks t c).After-look) c.in-Leads.is c.seek.ensures.seeks c.if-run-gt0-2.true c.put_down.ensures
+pub returns-then-is_found-2-clause-seeks : goal.returns-then-is_found-2-clause-seeks
+returns-then-is_found-2-clause-seeks t c = leads_found (in_hand t (goal.at.returns-then-is_found-2-clause-seeks t c).After-look) c.in-Leads.is c.seek.ensures.seeks (sym c.is_found-in-Leads.ensures ∙ c.if-is_found-2.true) c.put_down.ensures
 
-pub returns-then-run-gt0-2-clause-trails : goal.returns-then-run-gt0-2-clause-trails
-returns-then-run-gt0-2-clause-trails t c = trails_behind (in_hand t (goal.at.returns-then-run-gt0-2-clause-trails t c).After-look) c.in-Leads.is c.seek.ensures.trails
+pub returns-then-is_found-2-clause-trails : goal.returns-then-is_found-2-clause-trails
+returns-then-is_found-2-clause-trails t c = trails_behind (in_hand t (goal.at.returns-then-is_found-2-clause-trails t c).After-look) c.in-Leads.is c.seek.ensures.trails
 
 pub loop-i-smaller : goal.loop-i-smaller
 loop-i-smaller t c = fewer_ahead t (goal.at.loop-i-smaller t c).After-look
@@ -132,8 +130,8 @@ loop-i-smaller t c = fewer_ahead t (goal.at.loop-i-smaller t c).After-look
 pub loop-i-preserved : goal.loop-i-preserved
 loop-i-preserved t c =
     let h = in_hand t (goal.at.loop-i-preserved t c).After-look in
-    let r = leads_none h c.in-Leads.is c.seek.ensures.seeks c.if-run-gt0-2.false in record {
-      under_way = rest_on r c.requires.finding.under_way c.if-run-gt0-2.false;
+    let r = leads_none h c.in-Leads.is c.seek.ensures.seeks (sym c.is_found-in-Leads.ensures ∙ c.if-is_found-2.false) in record {
+      under_way = rest_on r c.requires.finding.under_way (sym c.is_found-in-Leads.ensures ∙ c.if-is_found-2.false);
       rest = rw c.next-i.ensures r;
       stored = c.seek.ensures.stored;
       trails = trails_behind h c.in-Leads.is c.seek.ensures.trails;

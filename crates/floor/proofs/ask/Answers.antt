@@ -11,21 +11,21 @@ returns-then-not-is_exposed c = asked_out _ _ _ _ c.is_exposed.ensures c.if-not-
 
 pub side_table-s-requires : goal.side_table-s-requires
 side_table-s-requires c =
-    let checked = c.requires.checked.0 in
+    let checked = c.args.call.now.checked in
     record {
       terminal_le_last_node = omega (arith, checked.terminal_node);
       table_value = checked.sound;
       table_len_bound = (checked_chainable End.Head checked).few;
-      chain = c.requires.checked.1;
+      chain = c.args.call.now.chained;
     }
 
 pub bounds-s-q : goal.bounds-s-q
-bounds-s-q c = omega (arith, c.requires.checked.0.source_node)
+bounds-s-q c = omega (arith, c.args.call.now.checked.source_node)
 
-pub returns-then-not-is_near : goal.returns-then-not-is_near
-returns-then-not-is_near c =
-    asked_none _ _ _ _ _ c.one-only.ensures c.side_table-s.ensures (sym c.is_near.ensures ∙ c.if-not-is_near.true)
+pub returns-else-is_near : goal.returns-else-is_near
+returns-else-is_near c =
+    asked_none _ _ _ _ _ c.one-only.ensures c.side_table-s.ensures (sym c.is_near.ensures ∙ c.if-is_near.false)
 
-pub returns : goal.returns
-returns c =
-    rw c.all_but.ensures (asked_free _ _ _ _ _ c.one-only.ensures c.side_table-s.ensures (sym c.is_near.ensures ∙ c.if-not-is_near.false))
+pub returns-then-is_near : goal.returns-then-is_near
+returns-then-is_near c =
+    rw c.all_but.ensures (asked_free _ _ _ _ _ c.one-only.ensures c.side_table-s.ensures (sym c.is_near.ensures ∙ c.if-is_near.true))

@@ -1,13 +1,9 @@
 -- `floor::common_exposure` meets its contract. What clearing leaves has every risk of every way within reach, and no other where it is sure. Else the
--- loop's invariant: so has what is left, and of those below r no other; the measure: the risks not asked about yet. Assumes nothing.
-use Prim.Native.Nat.{◌≤◌, ◌-◌}
-use Rattle.problem.specs.Table.{hazards, arcs_of}
+-- loop's invariant: so has what is left, and of those below r no other. Assumes nothing.
+use Rattle.problem.specs.Table.{arcs_of}
 use Rattle.problem.specs.Reply.{mesh_over}
 use Rattle.floor.proofs.CommonLaws.{Left}
 use Rattle.floor.proofs.common_exposure.Given as goal
 
 abbrev pub invariant-loop-r : goal.invariant-loop-r
-invariant-loop-r l = (l.r ≤ hazards) × Left (mesh_over (arcs_of l.table) l.q) l.left l.r
-
-abbrev pub decreases-loop-r : goal.decreases-loop-r
-decreases-loop-r l = hazards - l.r
+invariant-loop-r l = Left (mesh_over (arcs_of l.table) l.fn.q) l.left l.r

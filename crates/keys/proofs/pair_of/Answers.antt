@@ -1,6 +1,5 @@
 -- `keys::pair_of` meets its contract: the definition, computed. Assumes nothing.
 use Rattle.keys.proofs.BoundLaws.{standby_parts}
-use Rattle.keys.specs.Keys.{pair_key, pair_of}
 use borrow.Author.Rules.{rules}
 use Rattle.keys.proofs.pair_of.Goals as goal
 
@@ -9,7 +8,3 @@ overflow_mul-result-2 c = search (rules, standby_parts c.requires.1)
 
 pub overflow_add-result-2 : goal.overflow_add-result-2
 overflow_add-result-2 c = search (rules, standby_parts c.requires.1)
-
-pub returns : goal.returns
-unfolding pair_of pair_key
-returns c = search rules

@@ -1,12 +1,16 @@
--- `layout::lay_arcs` meets its contract. The invariant: the words of the first k arcs are written. The measure: the arcs left. Assumes nothing.
-use Prim.Native.Nat.{◌-◌, ◌≤◌}
-use Rattle.problem.specs.Table.{most_in_table, arcs_of}
-use Rattle.layout.specs.Spread.{Columns}
-use Rattle.layout.specs.Layout.{arc_column}
+-- `layout::lay_arcs` meets its contract. The invariant: the arcs below k are written. Assumes nothing.
+use Rattle.std.proofs.Common.{ℕ, ◌<◌, ◌≡◌}
+use Rattle.problem.specs.Table.{arcs_of}
+use Rattle.problem.specs.Exposures.{of_arc}
+use Rattle.problem.specs.Routes.{arc_at}
+use Rattle.chain.specs.Chain.{next_in}
+use Rattle.net.specs.Net.{link_at, exposure_at, span_at}
+use Rattle.layout.specs.Layout.{link_of}
 use Rattle.layout.proofs.lay_arcs.Given as goal
 
 abbrev pub invariant-loop-k : goal.invariant-loop-k
-invariant-loop-k l = (l.k ≤ l.n) × Columns l.k (arc_column (arcs_of l.table) l.chain l.into) 0 most_in_table l.initial.net l.net
-
-abbrev pub decreases-loop-k : goal.decreases-loop-k
-decreases-loop-k l = l.n - l.k
+invariant-loop-k l = record {
+  link : (j : ℕ) → j < l.k → link_at l.net j ≡ link_of (arc_at (arcs_of l.table) j) (next_in l.chain j) (next_in l.into j);
+  exposure : (j : ℕ) → j < l.k → exposure_at l.net j ≡ of_arc (arc_at (arcs_of l.table) j);
+  span : (j : ℕ) → j < l.k → span_at l.net j ≡ (arc_at (arcs_of l.table) j).span;
+}

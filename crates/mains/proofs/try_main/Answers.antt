@@ -1,5 +1,4 @@
--- `mains::try_main` meets its contract: each return is one case of `tried`, by the tests that led there;
--- the store is as the trial of the main left it, or as it was. Assumes nothing.
+-- `mains::try_main` meets its contract: each return is one case of `tried`, by the tests that led there. Assumes nothing.
 use mathlib.Core.Path.{◌≡◌, ap, ◌∙◌}
 use mathlib.Core.Bool.{Bool, false}
 use Prim.Native.Nat.{ℕ, ◌<◌}
@@ -18,22 +17,13 @@ more : (only : Bool) (m : Mesh) (cap : ℕ) (main : Behind) (last : ℕ) (t : Ta
 unfolding tried counted
 more only m cap main last t o h b e = rw (o, lt-leb cap t.ranked h) (e ∙ ap (λ (x : ℕ). counted main.metres x t) b)
 
-pub returns-then-t : goal.returns-then-t
+pub returns-then-t-clause-tally : goal.returns-then-t-clause-tally
 unfolding tried
-returns-then-t c = record {
-  tally = rw (c.if-t.true, tried);
-  stored = c.requires.2;
-}
+returns-then-t-clause-tally c = rw (c.if-t.true, tried)
 
-pub returns-then-cap-t : goal.returns-then-cap-t
+pub returns-then-cap-t-clause-tally : goal.returns-then-cap-t-clause-tally
 unfolding tried
-returns-then-cap-t c = record {
-  tally = rw (c.if-t.false, le-leb _ _ c.if-cap-t.true, tried);
-  stored = c.requires.2;
-}
+returns-then-cap-t-clause-tally c = rw (c.if-t.false, le-leb _ _ c.if-cap-t.true, tried)
 
-pub returns : goal.returns
-returns c = record {
-  tally = more _ _ c.args.cap c.args.main c.args.last c.args.t c.if-t.false c.if-cap-t.false c.best_with-best.ensures.best c.one_more.ensures;
-  stored = c.best_with-best.ensures.stored;
-}
+pub returns-clause-tally : goal.returns-clause-tally
+returns-clause-tally c = more _ _ c.args.cap c.args.main c.args.last c.args.t c.if-t.false c.if-cap-t.false c.best_with-best.ensures.best c.one_more.ensures

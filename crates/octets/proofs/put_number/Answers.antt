@@ -1,36 +1,30 @@
--- `octets::put_number` meets its contract. The invariant: the first i bytes are put, and the others are those of what is left.
--- The measure: how many they are. Assumes nothing.
-use Prim.Native.Nat.{◌+◌, ◌≤◌}
-use mathlib.Core.Path.{sym}
-use native.Mathlib.Nat.{sub-zero}
-use native.Mathlib.Omega.{arith}
-use lib.ListN.{length}
+-- The bytes put so far, and those of what is left, are those of the number: at the end nothing is left. Assumes nothing.
+use Rattle.std.proofs.Common.{◌≡◌, [], ◌∷◌, ◌+◌, ◌≤◌, ◌<◌, length, ℕ, ◌-◌, ◌/◌, ◌%◌, List, ◌++◌, take, suc, arith, append_assoc, ◌∙◌, ap}
+use Rattle.std.proofs.lemmas.List.{take_more_set}
+use Rattle.std.proofs.Math.ListN.{set}
+use Rattle.std.proofs.lemmas.Grind.{common_steps}
 use Rattle.problem.specs.Table.{bytes_of}
-use Rattle.octets.proofs.PutLaws.{begun_none, begun_more, begun_length, begun_all}
-use Rattle.octets.proofs.ByteLaws.{bytes_length, byte_next, byte_rest}
-use Rattle.octets.proofs.put_number.Goals.{Start}
 use Rattle.octets.proofs.put_number.Goals as goal
 
--- there is room for the bytes
-room : (c : Start) → c.args.at + length (bytes_of c.args.n c.args.x) ≤ length c.args.out.now
-room c = rw (bytes_length c.args.n c.args.x) c.requires
+one_more : (put : List ℕ) (i n left : ℕ) → i < length put → i < n →
+    take (i + 1) (set put i (left % 256)) ++ bytes_of (n - (i + 1)) (left / 256) ≡ take i put ++ bytes_of (n - i) left
+unfolding bytes_of
+one_more put i n left h k =
+    let more : n - i ≡ suc (n - (i + 1)) = omega arith in
+    ap (λ (l : List ℕ). l ++ bytes_of (n - (i + 1)) (left / 256)) (take_more_set put i (left % 256) h)
+    ∙ append_assoc (take i put) (left % 256 ∷ []) (bytes_of (n - (i + 1)) (left / 256))
+    ∙ rw more
 
-pub loop-i-init : goal.loop-i-init
-loop-i-init c = (begun_none _ _ _, rw sub-zero)
+none_left : (put bytes : List ℕ) (i n left : ℕ) → length put ≡ n → n ≤ i → take i put ++ bytes_of (n - i) left ≡ bytes → put ≡ bytes
+unfolding bytes_of
+none_left put bytes i n left size h e = let none : n - i ≡ 0 = omega arith in grind (arith, common_steps, rw none at e)
 
-pub bounds-out-at : goal.bounds-out-at
-bounds-out-at c = omega (arith, begun_length (room (goal.at.bounds-out-at c).Start) c.loop-i.invariant.0)
-
-pub loop-i-preserved : goal.loop-i-preserved
-loop-i-preserved c =
-    let s = c.args in (
-      begun_more (room (goal.at.loop-i-preserved c).Start) c.loop-i.invariant.0 (rw bytes_length c.loop-i-test.true) (byte_next s.n s.x c.loop-i.i c.loop-i.left c.loop-i-test.true c.loop-i.invariant.1),
-      byte_rest s.n s.x c.loop-i.i c.loop-i.left c.loop-i-test.true c.loop-i.invariant.1,
-    )
-
-pub shape_of-out : goal.shape_of-out
-shape_of-out c = begun_length (room (goal.at.shape_of-out c).Start) c.loop-i.invariant.0
+pub loop-byte-preserved : goal.loop-byte-preserved
+loop-byte-preserved c = grind (arith, common_steps, one_more)
 
 pub returns : goal.returns
 returns c =
-    begun_all (room (goal.at.returns c).Start) c.loop-i.invariant.0 (sym (bytes_length c.args.n c.args.x)) c.loop-i-test.false
+    let l = c.loop-byte in
+    let size : length l.byte-items ≡ c.args.n = grind (arith, common_steps) in
+    let all : l.byte-items ≡ bytes_of c.args.n c.args.x = none_left l.byte-items _ l.byte-index c.args.n l.left size (omega arith) l.invariant in
+    grind (arith, common_steps, all, size)

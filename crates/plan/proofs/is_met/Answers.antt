@@ -5,8 +5,8 @@ use Rattle.plan.proofs.is_met.Goals as goal
 
 pub returns-then-shared_of-floor : goal.returns-then-shared_of-floor
 unfolding met_by
-returns-then-shared_of-floor c = rw (← c.shared_of.ensures.0, ne_eqb _ _ c.if-shared_of-floor.true)
+returns-then-shared_of-floor c = rw (← c.shared_of.ensures.0, eq-eqb _ _ c.if-shared_of-floor.true, ← c.total_of.ensures.0)
 
-pub returns : goal.returns
+pub returns-else-shared_of-floor : goal.returns-else-shared_of-floor
 unfolding met_by
-returns c = rw (← c.shared_of.ensures.0, eq-eqb _ _ c.if-shared_of-floor.false, ← c.total_of.ensures.0)
+returns-else-shared_of-floor c = rw (← c.shared_of.ensures.0, ne_eqb _ _ c.if-shared_of-floor.false)

@@ -8,12 +8,12 @@ use Rattle.cores.specs.Cores.{Stored}
 use Rattle.plan.proofs.PlanLaws.{Going}
 use Rattle.plan.proofs.plan.Given as goal
 
-abbrev pub invariant-loop-cur : goal.invariant-loop-cur
-invariant-loop-cur l = record {
+abbrev pub invariant-loop-next : goal.invariant-loop-next
+invariant-loop-next l = record {
   reach_is : l.reach ≡ (mesh_in l.net).reach;
-  going : Going l.net l.allowance l.floor l.t l.cur l.a.width;
+  going : Going l.net l.allowance l.floor l.next.tally l.next.cur l.next.width;
   stored : Stored l.net l.store;
 }
 
-abbrev pub decreases-loop-cur : goal.decreases-loop-cur
-decreases-loop-cur l = (l.reach + 1 - l.cur) * 100000000 + l.a.width
+abbrev pub decreases-loop-next : goal.decreases-loop-next
+decreases-loop-next l = (l.reach + 1 - l.next.cur) * 100000000 + l.next.width

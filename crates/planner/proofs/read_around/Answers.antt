@@ -22,7 +22,7 @@ module _ (c : After-turn_all) where
   turned = c.turn_all.new.table
 
   size : length turned ≡ length table
-  size = c.turn_all.auto.table ∙ rw length-take (omega (arith, c.write_marked-spanned.auto.out, c.requires.0.few_bytes))
+  size = c.turn_all.auto.table ∙ rw length-take (omega (arith, c.write_marked-spanned.auto.out, c.requires.few_bytes))
 
   says : arcs_of turned ≡ turned_in (set_of c.args.set) c.args.q.terminal c.args.q.source (marked_arcs table)
   says =
@@ -38,16 +38,16 @@ module _ (c : After-turn_all) where
 
 pub returns-then-not-any : goal.returns-then-not-any
 returns-then-not-any c =
-    reads_open c.args.table.now c.args.q (eqb-true _ 0 (not-false _ (sym c.any.ensures ∙ c.if-not-any.true))) c.read_checked.ensures
+    reads_open c.args.table.now c.args.q _ _ _ (eqb-true _ 0 (not-false _ (sym c.any.ensures ∙ c.if-not-any.true))) c.read_checked.ensures
 
 pub write_marked-spanned-requires : goal.write_marked-spanned-requires
-write_marked-spanned-requires c = (c.requires.0.few_bytes, c.requires.0.few_bytes, c.requires.0.has_whole_arcs)
+write_marked-spanned-requires c = (c.requires.few_bytes, c.requires.few_bytes, c.requires.has_whole_arcs)
 
 pub slice_bounds-around-end : goal.slice_bounds-around-end
-slice_bounds-around-end c = omega (arith, c.write_marked-spanned.auto.out, c.requires.0.few_bytes)
+slice_bounds-around-end c = omega (arith, c.write_marked-spanned.auto.out, c.requires.few_bytes)
 
 pub turn_all-requires : goal.turn_all-requires
-turn_all-requires c = (rw length-take (omega (arith, c.requires.0.few_bytes)), c.requires.0.source_node, c.requires.0.terminal_node)
+turn_all-requires c = (rw length-take (omega (arith, c.requires.few_bytes)), c.requires.source_node, c.requires.terminal_node)
 
 pub slice_bounds-read_table-end : goal.slice_bounds-read_table-end
 slice_bounds-read_table-end c = inside (goal.at.slice_bounds-read_table-end c).After-turn_all _
@@ -55,12 +55,11 @@ slice_bounds-read_table-end c = inside (goal.at.slice_bounds-read_table-end c).A
 pub read_table-requires : goal.read_table-requires
 read_table-requires c =
     let t = (goal.at.read_table-requires c).After-turn_all in (
-      rw (read t) (checked_turned c.requires.0 _ _ (size t) (says t)),
-      (λ e. rw (read t) (unspanned_turned c.requires.0 _ _ (size t) (says t) (c.write_marked-spanned.ensures.spanned e))),
-      c.requires.1,
+      rw (read t) (checked_turned c.requires _ _ (size t) (says t)),
+      (λ e. rw (read t) (unspanned_turned c.requires _ _ (size t) (says t) (c.write_marked-spanned.ensures.spanned e))),
     )
 
 pub returns : goal.returns
 returns c =
     let t = (goal.at.returns c).After-turn_all in
-    reads_turned c.requires.0 _ _ (size t) (says t) (rw (read t) at c.read_table.ensures)
+    reads_turned c.requires _ _ (size t) (says t) _ _ _ (rw (read t) at c.read_table.ensures)

@@ -8,7 +8,7 @@ use Rattle.chain.specs.declared.End.{End}
 use Rattle.chain.proofs.BuiltLaws.{checked_chainable}
 use Rattle.side.specs.Side.{SideTable}
 use Rattle.planner.proofs.PlannerLaws.{floor_counted, read_some, read_none, some_routes}
-use Rattle.planner.proofs.read_table.Goals.{After-side_table-side}
+use Rattle.planner.proofs.read_table.Goals.{After-side_table-side, then-not-entry-via-then-not-entry, then-not-entry-via-else-not-entry+then-q-entry}
 use Rattle.planner.proofs.read_table.Goals as goal
 
 -- the table that is asked has nothing banned
@@ -30,11 +30,11 @@ side_table-side-requires c =
 
 pub returns-then-not-entry : goal.returns-then-not-entry
 returns-then-not-entry c =
-    read_none c.requires.0 (plain (goal.at.returns-then-not-entry c).After-side_table-side) c.no_route.ensures (inl (not-true _ c.if-not-entry.true))
-
-pub returns-then-q-entry : goal.returns-then-q-entry
-returns-then-q-entry c =
-    read_none c.requires.0 (plain (goal.at.returns-then-q-entry c).After-side_table-side) c.no_route-then-q-entry.ensures (inr c.if-q-entry.true)
+    let side = plain (goal.at.returns-then-not-entry c).After-side_table-side in
+    elim c.then-not-entry.branch [
+      | then-not-entry-via-then-not-entry w ↦ read_none c.requires.0 side (inl (not-true _ w.if-not-entry.true))
+      | then-not-entry-via-else-not-entry+then-q-entry w ↦ read_none c.requires.0 side (inr w.if-q-entry.true)
+    ]
 
 pub common_exposure-common-requires : goal.common_exposure-common-requires
 common_exposure-common-requires c = record {

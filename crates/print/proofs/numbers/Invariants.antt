@@ -1,10 +1,6 @@
--- `print::numbers`. The invariant: once the numbers from i on are written too, all are (`Listed`). The measure: the numbers left. Assumes nothing.
-use Rattle.std.proofs.Common.{◌-◌, length}
+-- The invariant: once the numbers that are left are written too, all are (`Listed`). Assumes nothing.
 use Rattle.print.proofs.FieldLaws.{Listed}
 use Rattle.print.proofs.numbers.Given as goal
 
-abbrev pub invariant-loop-i : goal.invariant-loop-i
-invariant-loop-i l = Listed l.bytes l.initial.out l.at l.out l.next l.i
-
-abbrev pub decreases-loop-i : goal.decreases-loop-i
-decreases-loop-i l = length l.bytes - l.i
+abbrev pub invariant-loop-byte : goal.invariant-loop-byte
+invariant-loop-byte l = Listed l.bytes l.initial.out l.at l.out l.next l.byte-index

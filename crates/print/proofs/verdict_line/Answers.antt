@@ -7,7 +7,7 @@ use Rattle.print.proofs.verdict_line.Goals as goal
 pub returns : goal.returns
 unfolding text
 returns c = record {
-  puts = verdict_put c.args.reply.now c.wide.ensures c.wide-2.ensures c.number4.ensures (omega arith) (omega arith) (omega arith)
+  puts = verdict_put c.args.reply.now c.from.ensures c.from-2.ensures c.number4.ensures (omega arith) (omega arith) (omega arith)
       c.verdict_word-next.ensures.puts c.field-next.ensures.puts c.field-next-2.ensures.puts c.field-next-3.ensures.puts c.put.ensures;
   upper_bound = omega arith;
 }

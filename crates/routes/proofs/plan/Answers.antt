@@ -10,4 +10,4 @@ pub returns : goal.returns
 returns c =
     let input = c.args.input.now in
     asked_by input _ c.args.reply.now _ _ _ _ (take_all (length input - 16) (drop 16 input) (rw length-drop (omega arith)))
-    c.wide-source.ensures c.wide-terminal.ensures c.number4-reach.ensures c.number4-allowance.ensures c.feshangul_plan.ensures
+    c.from-source.ensures c.from-terminal.ensures c.number4-reach.ensures c.number4-allowance.ensures c.feshangul_plan.ensures

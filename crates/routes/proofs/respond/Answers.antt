@@ -8,10 +8,10 @@ returns-then-is_faulty c =
     let put = put_output _ _ _ _ _ c.render.ensures (output_fault _ _ (sym c.is_faulty.ensures ∙ c.if-is_faulty.true)) in
     record { text = put.0; inside = put.1 }
 
-pub plan-n-requires : goal.plan-n-requires
-plan-n-requires c = faulty_long _ (sym c.is_faulty.ensures ∙ c.if-is_faulty.false)
+pub plan-number-requires : goal.plan-number-requires
+plan-number-requires c = faulty_long _ (sym c.is_faulty.ensures ∙ c.if-is_faulty.false)
 
 pub returns : goal.returns
 returns c =
-    let put = put_output _ _ _ _ _ c.render-2.ensures (output_answer _ (sym c.is_faulty.ensures ∙ c.if-is_faulty.false) refl c.plan-n.ensures) in
+    let put = put_output _ _ _ _ _ c.render-2.ensures (output_answer _ (sym c.is_faulty.ensures ∙ c.if-is_faulty.false) refl c.plan-number.ensures) in
     record { text = put.0; inside = put.1 }

@@ -1,13 +1,11 @@
--- `sets::without` meets its contract: what two sets have in common is no more than either. Assumes nothing.
-use mathlib.Core.Path.{refl}
-use native.Mathlib.Omega.{arith}
-use lib.Bits.{and_le_l}
+-- `sets::without` meets its contract: what is in the set and not in the other, with what is in both, makes the set. Assumes nothing.
+use Rattle.std.proofs.Common.{◌-◌, arith}
+use Rattle.std.proofs.lemmas.Nat.{and-not, and_comm}
 use Rattle.laws.specs.Sets.{without}
 use Rattle.sets.proofs.without.Goals as goal
 
-pub overflow_sub-result : goal.overflow_sub-result
-overflow_sub-result c = omega (arith, and_le_l c.args.set c.args.other)
-
 pub returns : goal.returns
 unfolding without
-returns c = refl
+returns c =
+    let s = c.args in
+    omega (arith, and-not 64 s.other s.set c.ranges.other.fits c.ranges.set.fits, and_comm s.set s.other, and_comm s.set (18446744073709551615 - s.other))

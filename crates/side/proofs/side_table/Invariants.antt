@@ -6,7 +6,7 @@ use Rattle.side.proofs.OutwardLaws.{Outward}
 use Rattle.side.proofs.side_table.Given as goal
 
 abbrev pub invariant-loop-opened : goal.invariant-loop-opened
-invariant-loop-opened l = Outward (arcs_of l.table) l.terminal l.banned l.entries l.finished l.opened
+invariant-loop-opened l = Outward (arcs_of l.table) l.terminal l.fn.banned l.entries l.finished l.opened
 
 abbrev pub decreases-loop-opened : goal.decreases-loop-opened
 decreases-loop-opened l = unmet nodes l.finished

@@ -1,4 +1,4 @@
--- `spans::any` meets its contract. The invariant: no arc before k has a span. The measure: the arcs left. Assumes nothing.
+-- `spans::any` meets its contract. The invariant: no arc before k has a span. Assumes nothing.
 use Prim.Native.Nat.{ℕ}
 use mathlib.Core.Path.{◌≡◌, sym, ap, ◌∙◌}
 use mathlib.Core.Bool.{true≢false, false≢true}
@@ -10,9 +10,6 @@ use Rattle.problem.specs.Routes.{arc_at}
 use Rattle.problem.proofs.TableLaws.{arcs_length}
 use Rattle.spans.proofs.any.Goals as goal
 
-pub loop-k-init : goal.loop-k-init
-loop-k-init c = (omega arith, λ j h. absurd (omega arith))
-
 pub returns-then-a-ne0 : goal.returns-then-a-ne0
 returns-then-a-ne0 c =
     let t = c.args.table.now in (
@@ -23,9 +20,9 @@ returns-then-a-ne0 c =
 pub loop-k-preserved : goal.loop-k-preserved
 loop-k-preserved c =
     let t = c.args.table.now in
-    (omega (arith, c.loop-k-test.true), below_more (λ (j : ℕ). (arc_at (arcs_of t) j).span ≡ 0) c.loop-k.k c.loop-k.invariant.1 (sym (ap (λ (a : Arc). a.span) c.arc_at-a.ensures) ∙ c.if-a-ne0.false))
+    below_more (λ (j : ℕ). (arc_at (arcs_of t) j).span ≡ 0) c.loop-k.k c.loop-k.invariant (sym (ap (λ (a : Arc). a.span) c.arc_at-a.ensures) ∙ c.if-a-ne0.false)
 
 pub returns : goal.returns
 returns c =
     let t = c.args.table.now in
-    (λ e. absurd (false≢true e), λ e k h. c.loop-k.invariant.1 k (omega (arith, h, arcs_length t, c.loop-k-test.false)))
+    (λ e. absurd (false≢true e), λ e k h. c.loop-k.invariant k (omega (arith, h, arcs_length t, c.loop-k-test.false)))

@@ -1,12 +1,9 @@
--- `spans::any` meets its contract. The invariant: no arc before k has a span. The measure: the arcs left. Assumes nothing.
-use Prim.Native.Nat.{ℕ, ◌-◌, ◌≤◌, ◌<◌}
+-- `spans::any` meets its contract. The invariant: no arc before k has a span. Assumes nothing.
+use Prim.Native.Nat.{ℕ, ◌<◌}
 use mathlib.Core.Path.{◌≡◌}
 use Rattle.problem.specs.Table.{arcs_of}
 use Rattle.problem.specs.Routes.{arc_at}
 use Rattle.spans.proofs.any.Given as goal
 
 abbrev pub invariant-loop-k : goal.invariant-loop-k
-invariant-loop-k l = (l.k ≤ l.n) × ((j : ℕ) → j < l.k → (arc_at (arcs_of l.table) j).span ≡ 0)
-
-abbrev pub decreases-loop-k : goal.decreases-loop-k
-decreases-loop-k l = l.n - l.k
+invariant-loop-k l = (j : ℕ) → j < l.k → (arc_at (arcs_of l.table) j).span ≡ 0

@@ -4,19 +4,18 @@
 use Rattle.std.proofs.Common.{◌-◌, ◌≡◌, length}
 use Rattle.laws.specs.Sets.{unmet}
 use Rattle.net.specs.Net.{arcs_in}
-use Rattle.net.specs.Search.{behind}
-use Rattle.standby.specs.Standby.{main_in, last_barred, exposed_to}
+use Rattle.standby.specs.Trail.{behind_by}
 use Rattle.standby.proofs.SeekLaws.{Going}
 use Rattle.standby.proofs.+seek.Given as goal
 
 abbrev pub decreases-seek : goal.decreases-seek
-decreases-seek l = unmet 32 l.met
+decreases-seek g l = unmet 32 l.trail.now.met
 
 abbrev pub invariant-loop-i : goal.invariant-loop-i
-invariant-loop-i l = record {
+invariant-loop-i g l = record {
   count : l.n ≡ length (arcs_in l.net);
-  going : Going l.net (main_in l.main) (last_barred l.main) (behind l.met l.metres (exposed_to l.risks l.spans)) l.at l.bound l.fn.store l.store l.least l.i;
+  going : Going l.net l.main.exposure l.main.last (behind_by g.C.Carried.exposed_to l.trail) l.at l.bound l.fn.labels l.labels l.least l.i;
 }
 
 abbrev pub decreases-loop-i : goal.decreases-loop-i
-decreases-loop-i l = l.n - l.i
+decreases-loop-i g l = l.n - l.i

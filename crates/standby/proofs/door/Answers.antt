@@ -22,7 +22,7 @@ loop-k-smaller c =
 
 pub loop-k-preserved : goal.loop-k-preserved
 loop-k-preserved c =
-    (c.loop-k.invariant.0, rw c.next_in-k.ensures (doors_next _ _ c.requires (omega (arith, c.loop-k.invariant.0)) c.loop-k.invariant.1 c.shared_with-shared.ensures.0 c.smaller-least.ensures))
+    (c.loop-k.invariant.0, rw c.next_in-k.ensures (doors_next _ _ c.requires (omega (arith, c.loop-k.invariant.0)) c.loop-k.invariant.1 c.shared_with-shared.ensures.0 c.min-least.ensures))
 
 pub returns : goal.returns
 returns c = doors_all _ _ (omega (arith, c.loop-k.invariant.0)) c.loop-k.invariant.1

@@ -1,7 +1,6 @@
 -- `standby::look` meets its contract: each return is one kind of arc, by the tests that led there; what was read are the arc's own fields,
--- and the lower bound is that of its head. Assumes nothing.
-use mathlib.Core.List.{List}
-use mathlib.Core.Path.{◌≡◌, sym, ap, ap₂, ◌∙◌}
+-- the lower bound is that of its head, and what is carried over it is true. Assumes nothing.
+use mathlib.Core.Path.{◌≡◌, refl, sym, ap, ap₂, ◌∙◌}
 use Prim.Native.Nat.{ℕ, ◌+◌, ◌≤◌, ◌<◌, max}
 use native.Mathlib.Omega.{arith}
 use Rattle.laws.specs.Sets.{bit}
@@ -9,116 +8,105 @@ use Rattle.problem.specs.declared.Arc.{Arc}
 use Rattle.problem.specs.declared.Exposure.{Exposure}
 use Rattle.problem.specs.Exposures.{of_arc, joined, sharing}
 use Rattle.problem.specs.Routes.{arc_at}
-use Rattle.problem.proofs.ExposureLaws.{sharing_le}
 use Rattle.keys.specs.Keys.{standby_key}
+use Rattle.net.specs.declared.Net.{Net}
 use Rattle.net.specs.declared.Behind.{Behind}
-use Rattle.net.specs.Net.{arcs_in, word_at, lower_from, mesh_in}
-use Rattle.net.specs.Search.{behind}
+use Rattle.net.specs.Net.{arcs_in, mesh_in, lower_at}
 use Rattle.net.proofs.SearchLaws.{has_met, has_not_met, onto_read}
 use Rattle.standby.specs.declared.Hop.TheVariants.{Ends, Leads}
-use Rattle.standby.specs.Standby.{main_in, door_of, last_barred, exposed_to, key_over}
+use Rattle.standby.specs.Standby.{key_over}
+use Rattle.standby.specs.Trail.{behind_by}
 use Rattle.standby.proofs.HopLaws.{Opens, hop_met, hop_far, hop_no_better, hop_barred, hop_ends, hop_leads}
+use Rattle.standby.proofs.look.Given.{Over}
 use Rattle.standby.proofs.look.Goals.{After-standby_key-key}
 use Rattle.standby.proofs.look.Goals as goal
 
-length_is : (net : List ℕ) (a : Arc) (metres : ℕ) {head own low : ℕ} → head ≡ a.head → own ≡ a.metres → low ≡ word_at net (lower_from + head)
-    → metres + own + low ≡ metres + a.metres + word_at net (lower_from + a.head)
-length_is net a metres h o l = ap₂ (λ (x y : ℕ). metres + x + y) o (l ∙ ap (λ (v : ℕ). word_at net (lower_from + v)) h)
+length_is : (net : Net) (a : Arc) (metres : ℕ) {head own low : ℕ} → head ≡ a.head → own ≡ a.metres → low ≡ lower_at net head
+    → metres + own + low ≡ metres + a.metres + lower_at net a.head
+length_is net a metres h o l = ap₂ (λ (x y : ℕ). metres + x + y) o (l ∙ ap (λ (v : ℕ). lower_at net v) h)
 
 -- ---- where the key is known
 
-abbrev net : After-standby_key-key → List ℕ
-net c = c.args.net.now
+module _ (g : Over) (c : After-standby_key-key g) where
+  abbrev net : Net
+  net = c.args.net.now
 
-abbrev arc : After-standby_key-key → Arc
-arc c = arc_at (arcs_in (net c)) c.args.i
+  abbrev arc : Arc
+  arc = arc_at (arcs_in net) c.args.i
 
-abbrev lower : After-standby_key-key → ℕ
-lower c = word_at (net c) (lower_from + (arc c).head)
+  abbrev lower : ℕ
+  lower = lower_at net arc.head
 
-abbrev passed : After-standby_key-key → Behind
-passed c = behind c.args.met c.args.metres (exposed_to c.args.risks c.args.spans.now)
+  abbrev passed : Behind
+  passed = behind_by g.C.Carried.exposed_to c.args.trail.now
 
-abbrev main : After-standby_key-key → Exposure
-main c = main_in c.args.main.now
+  abbrev main : Exposure
+  main = c.args.main.now.exposure
 
-abbrev door : After-standby_key-key → ℕ
-door c = door_of c.args.main.now
+  abbrev door : ℕ
+  door = c.args.main.now.door
 
-abbrev last : After-standby_key-key → ℕ
-last c = last_barred c.args.main.now
+  abbrev last : ℕ
+  last = c.args.main.now.last
 
-new : (c : After-standby_key-key) → bit c.args.met (arc c).head ≡ 0
-new c = has_not_met c.args.met c.head-head.ensures.0 c.has.ensures c.if-has.false
+  new : bit passed.met arc.head ≡ 0
+  new = has_not_met passed.met c.head-head.ensures.0 c.has.ensures c.if-has.false
 
--- what the main shares once the arc lies behind it
-more_is : (c : After-standby_key-key) → c.args.shared + c.newly_shared.result ≡ sharing (main c) (joined (passed c).exposure (of_arc (arc c)))
-more_is c = omega (arith, c.newly_shared.ensures.is, c.requires.4)
+  -- what the main shares once the arc lies behind it
+  shared_is : c.shared_over-shared.result ≡ sharing main (joined passed.exposure (of_arc arc))
+  shared_is = c.shared_over-shared.ensures.is
 
-to_is : (c : After-standby_key-key) → c.args.metres + c.metres.result + c.lower.result ≡ c.args.metres + (arc c).metres + lower c
-to_is c = length_is (net c) (arc c) c.args.metres c.head-head.ensures.0 c.metres.ensures.0 c.lower.ensures.0
+  to_is : passed.metres + c.metres.result + c.lower.result ≡ passed.metres + arc.metres + lower
+  to_is = length_is net arc passed.metres c.head-head.ensures.0 c.metres.ensures.0 c.lower.ensures.0
 
-key_is : (c : After-standby_key-key) → c.standby_key-key.result ≡ key_over (lower c) (main c) (door c) (passed c) (arc c)
-key_is c = c.standby_key-key.ensures ∙ ap₂ standby_key (c.larger.ensures ∙ ap (max (door c)) (more_is c)) (to_is c)
+  key_is : c.standby_key-key.result ≡ key_over lower main door passed arc
+  key_is = c.standby_key-key.ensures ∙ ap₂ standby_key (c.max.ensures ∙ ap (max door) shared_is) to_is
 
-reached : (c : After-standby_key-key) → c.args.metres + (arc c).metres + lower c ≤ (mesh_in (net c)).reach
-reached c = omega (arith, to_is c, c.if-reach-to.false, c.reach.ensures.0)
+  reached : passed.metres + arc.metres + lower ≤ (mesh_in net).reach
+  reached = omega (arith, to_is, c.if-reach-to.false, c.reach.ensures.0)
 
-opens : (c : After-standby_key-key) → c.standby_key-key.result < c.args.least → Opens (mesh_in (net c)) (lower c) (main c) (door c) (last c) c.args.least (passed c) c.args.i (arc c)
-opens c b = record { new = new c; in_reach = reached c; better = omega (arith, key_is c) }
+  opens : c.standby_key-key.result < c.args.least → Opens (mesh_in net) lower main door last c.args.least passed c.args.i arc
+  opens b = record { new = new; in_reach = reached; better = omega (arith, key_is) }
 
 -- ---- what it says
 
-pub returns-then-has : goal.returns-then-has
-returns-then-has c =
-    sym (hop_met _ _ (main_in c.args.main.now) (door_of c.args.main.now) (last_barred c.args.main.now) c.args.least (behind c.args.met c.args.metres (exposed_to c.args.risks c.args.spans.now)) c.args.i _
-    (has_met c.args.met c.head-head.ensures.0 c.has.ensures c.if-has.true))
+pub returns-then-has-clause-is : goal.returns-then-has-clause-is
+returns-then-has-clause-is g c =
+    let main = c.args.main.now in
+    let b = behind_by g.C.Carried.exposed_to c.args.trail.now in
+    sym (hop_met _ _ main.exposure main.door main.last c.args.least b c.args.i _ (has_met b.met c.head-head.ensures.0 c.has.ensures c.if-has.true))
 
-pub returns-then-reach-to : goal.returns-then-reach-to
-returns-then-reach-to c =
+pub returns-then-reach-to-clause-is : goal.returns-then-reach-to-clause-is
+returns-then-reach-to-clause-is g c =
+    let main = c.args.main.now in
+    let b = behind_by g.C.Carried.exposed_to c.args.trail.now in
     let a : Arc = arc_at (arcs_in c.args.net.now) c.args.i in
-    sym (hop_far (mesh_in c.args.net.now) (word_at c.args.net.now (lower_from + a.head)) (main_in c.args.main.now) (door_of c.args.main.now) (last_barred c.args.main.now) c.args.least
-    (behind c.args.met c.args.metres (exposed_to c.args.risks c.args.spans.now)) c.args.i a (has_not_met c.args.met c.head-head.ensures.0 c.has.ensures c.if-has.false)
-    (omega (arith, length_is c.args.net.now a c.args.metres c.head-head.ensures.0 c.metres.ensures.0 c.lower.ensures.0, c.if-reach-to.true, c.reach.ensures.0)))
+    let to = length_is c.args.net.now a b.metres c.head-head.ensures.0 c.metres.ensures.0 c.lower.ensures.0 in
+    sym (hop_far (mesh_in c.args.net.now) (lower_at c.args.net.now a.head) main.exposure main.door main.last c.args.least b c.args.i a
+    (has_not_met b.met c.head-head.ensures.0 c.has.ensures c.if-has.false) (omega (arith, to, c.if-reach-to.true, c.reach.ensures.0)))
 
-pub overflow_add-more : goal.overflow_add-more
-overflow_add-more c = omega (arith, c.newly_shared.ensures.most, c.requires.4, sharing_le (main_in c.args.main.now) (exposed_to c.args.risks c.args.spans.now))
+pub returns-then-least-key-clause-is : goal.returns-then-least-key-clause-is
+returns-then-least-key-clause-is g c =
+    let k = (goal.at.returns-then-least-key-clause-is g c).After-standby_key-key in
+    sym (hop_no_better (mesh_in (net g k)) (lower g k) (main g k) (door g k) (last g k) k.args.least (passed g k) k.args.i (arc g k) (new g k) (reached g k) (omega (arith, key_is g k, c.if-least-key.true)))
 
-pub standby_key-key-requires : goal.standby_key-key-requires
-standby_key-key-requires c = (
-  omega (arith, c.larger.ensures, c.requires.3, c.newly_shared.ensures.is, c.requires.4, sharing_le (main_in c.args.main.now) (joined (exposed_to c.args.risks c.args.spans.now) (of_arc (arc_at (arcs_in c.args.net.now) c.args.i)))),
-  omega (arith, c.requires.2, c.metres.ensures.1, c.lower.ensures.1),
-)
-
-pub returns-then-least-key : goal.returns-then-least-key
-returns-then-least-key c =
-    let k = (goal.at.returns-then-least-key c).After-standby_key-key in
-    sym (hop_no_better (mesh_in (net k)) (lower k) (main k) (door k) (last k) k.args.least (passed k) k.args.i (arc k) (new k) (reached k) (omega (arith, key_is k, c.if-least-key.true)))
-
-pub returns-then-i-main : goal.returns-then-i-main
-returns-then-i-main c =
-    let k = (goal.at.returns-then-i-main c).After-standby_key-key in
-    sym (hop_barred (mesh_in (net k)) (lower k) (main k) (door k) (last k) k.args.least (passed k) k.args.i (arc k) (opens k c.if-least-key.false)
+pub returns-then-i-main-clause-is : goal.returns-then-i-main-clause-is
+returns-then-i-main-clause-is g c =
+    let k = (goal.at.returns-then-i-main-clause-is g c).After-standby_key-key in
+    sym (hop_barred (mesh_in (net g k)) (lower g k) (main g k) (door g k) (last g k) k.args.least (passed g k) k.args.i (arc g k) (opens g k c.if-least-key.false)
     (sym c.head-head.ensures.0 ∙ c.if-head-terminal.true ∙ c.terminal.ensures.0) c.if-i-main.true)
 
-pub returns-then-head-terminal : goal.returns-then-head-terminal
-returns-then-head-terminal c =
-    let k = (goal.at.returns-then-head-terminal c).After-standby_key-key in
-    ap Ends (key_is k)
-    ∙ sym (hop_ends (mesh_in (net k)) (lower k) (main k) (door k) (last k) k.args.least (passed k) k.args.i (arc k) (opens k c.if-least-key.false)
+pub returns-then-head-terminal-clause-is : goal.returns-then-head-terminal-clause-is
+returns-then-head-terminal-clause-is g c =
+    let k = (goal.at.returns-then-head-terminal-clause-is g c).After-standby_key-key in
+    ap Ends (key_is g k)
+    ∙ sym (hop_ends (mesh_in (net g k)) (lower g k) (main g k) (door g k) (last g k) k.args.least (passed g k) k.args.i (arc g k) (opens g k c.if-least-key.false)
     (sym c.head-head.ensures.0 ∙ c.if-head-terminal.true ∙ c.terminal.ensures.0) c.if-i-main.false)
 
-pub overflow_cast-head-2 : goal.overflow_cast-head-2
-overflow_cast-head-2 c = omega (arith, c.head-head.ensures.1)
-
-pub with-requires : goal.with-requires
-with-requires c = omega (arith, c.head-head.ensures.1)
-
-pub returns : goal.returns
-returns c =
-    let k = (goal.at.returns c).After-standby_key-key in
-    let whole = c.joined-e.ensures ∙ ap (λ (e : Exposure). joined e c.exposure.result) c.exposed.ensures in
-    let on = onto_read (passed k) (arc k) c.with.ensures c.head-head.ensures.0 c.metres.ensures.0 whole c.exposure.ensures in
-    (λ i. Leads (c.head-head.ensures.0 i) (on i) (more_is k i))
-    ∙ sym (hop_leads (mesh_in (net k)) (lower k) (main k) (door k) (last k) k.args.least (passed k) k.args.i (arc k) (opens k c.if-least-key.false)
+pub returns-clause-is : goal.returns-clause-is
+returns-clause-is g c =
+    let k = (goal.at.returns-clause-is g c).After-standby_key-key in
+    let on = onto_read (passed g k) (arc g k) {r = of_arc (arc g k)} c.with.ensures c.head-head.ensures.0 c.metres.ensures.0 c.over.ensures.exposed refl in
+    ap₂ Leads c.head-head.ensures.0 on
+    ∙ sym (hop_leads (mesh_in (net g k)) (lower g k) (main g k) (door g k) (last g k) k.args.least (passed g k) k.args.i (arc g k) (opens g k c.if-least-key.false)
     (λ e. c.if-head-terminal.false (c.head-head.ensures.0 ∙ e ∙ sym c.terminal.ensures.0)))

@@ -2,7 +2,7 @@
 use Rattle.std.proofs.Common.{arith, ℕ, ◌-◌, ◌<◌, length}
 use Rattle.net.specs.Net.{arcs_in}
 use Rattle.net.specs.Search.{behind}
-use Rattle.sweep.proofs.WalkLaws.{cut_under_way, walking_start, walking_end, walking_over, walking_on, InHand, walking_past, walking_met, walking_cut, route_in_reach, walking_ends, walking_leads}
+use Rattle.sweep.proofs.WalkLaws.{walking_start, walking_end, walking_over, InHand, walking_past, walking_met, walking_cut, route_in_reach, walking_ends, walking_leads}
 use Rattle.sweep.proofs.+walk.Goals.{After-look}
 use Rattle.sweep.proofs.+walk.Goals as goal
 
@@ -14,7 +14,7 @@ in_hand t c =
     record {
       start = c.requires.0;
       walking = c.loop-i.invariant.1;
-      under_way = c.loop-i.invariant.0;
+      is_not_over = c.loop-i.invariant.0;
       inside = omega (arith, c.loop-i-test.true, c.arc_count.ensures);
       seen = c.look.ensures;
     }
@@ -32,7 +32,7 @@ loop-i-smaller-in-Met t c = fewer_ahead t (goal.at.loop-i-smaller-in-Met t c).Af
 pub loop-i-preserved-in-Met : goal.loop-i-preserved-in-Met
 loop-i-preserved-in-Met t c =
     let h = in_hand t (goal.at.loop-i-preserved-in-Met t c).After-look in
-    (h.under_way, rw c.next-i.ensures (walking_met h c.in-Met.is), c.loop-i.invariant.2)
+    (h.is_not_over, rw c.next-i.ensures (walking_met h c.in-Met.is), c.loop-i.invariant.2)
 
 pub loop-i-smaller-in-Past : goal.loop-i-smaller-in-Past
 loop-i-smaller-in-Past t c = fewer_ahead t (goal.at.loop-i-smaller-in-Past t c).After-look
@@ -40,36 +40,36 @@ loop-i-smaller-in-Past t c = fewer_ahead t (goal.at.loop-i-smaller-in-Past t c).
 pub loop-i-preserved-in-Past : goal.loop-i-preserved-in-Past
 loop-i-preserved-in-Past t c =
     let h = in_hand t (goal.at.loop-i-preserved-in-Past t c).After-look in
-    (cut_under_way c.cut_at.ensures h.under_way, rw c.next-i.ensures (walking_cut h c.in-Past.is c.cut_at.ensures), c.loop-i.invariant.2)
+    rw (c.next-i.ensures, c.cut_at.ensures) (h.is_not_over, walking_cut h c.in-Past.is, c.loop-i.invariant.2)
 
 pub meet_route-requires : goal.meet_route-requires
 meet_route-requires t c =
     let h = in_hand t (goal.at.meet_route-requires t c).After-look in
-    (h.start.words, route_in_reach h c.in-Ends.is, h.under_way, c.loop-i.invariant.2)
+    (h.start.words, route_in_reach h c.in-Ends.is, c.loop-i.invariant.2)
 
-pub returns-then-run-gt0-clause-walks : goal.returns-then-run-gt0-clause-walks
-returns-then-run-gt0-clause-walks t c =
-    let h = in_hand t (goal.at.returns-then-run-gt0-clause-walks t c).After-look in
-    walking_over (walking_ends h c.in-Ends.is c.meet_route.ensures.meets) h.start.words c.if-run-gt0.true
+pub returns-then-run-clause-walks : goal.returns-then-run-clause-walks
+returns-then-run-clause-walks t c =
+    let h = in_hand t (goal.at.returns-then-run-clause-walks t c).After-look in
+    walking_over (rw (← c.meet_route.ensures.met) at (walking_ends h c.in-Ends.is)) h.start.words c.if-run.true
 
-pub loop-i-smaller-else-run-gt0 : goal.loop-i-smaller-else-run-gt0
-loop-i-smaller-else-run-gt0 t c = fewer_ahead t (goal.at.loop-i-smaller-else-run-gt0 t c).After-look
+pub loop-i-smaller-else-run : goal.loop-i-smaller-else-run
+loop-i-smaller-else-run t c = fewer_ahead t (goal.at.loop-i-smaller-else-run t c).After-look
 
-pub loop-i-preserved-else-run-gt0 : goal.loop-i-preserved-else-run-gt0
-loop-i-preserved-else-run-gt0 t c =
-    let w = walking_ends (in_hand t (goal.at.loop-i-preserved-else-run-gt0 t c).After-look) c.in-Ends.is c.meet_route.ensures.meets in
-    (walking_on w c.requires.1 c.if-run-gt0.false, rw c.next-i.ensures w, c.meet_route.ensures.stored)
+pub loop-i-preserved-else-run : goal.loop-i-preserved-else-run
+loop-i-preserved-else-run t c =
+    let h = in_hand t (goal.at.loop-i-preserved-else-run t c).After-look in
+    (c.if-run.false, rw (c.next-i.ensures, c.meet_route.ensures.met) (walking_ends h c.in-Ends.is), c.meet_route.ensures.stored)
 
 pub walk-requires : goal.walk-requires
 walk-requires t c =
     let h = in_hand t (goal.at.walk-requires t c).After-look in
     let a = walking_leads h c.in-Leads.is in
-    (omega (arith, c.decreases, a.fewer_nodes), (a.ready, h.under_way, c.loop-i.invariant.2))
+    (omega (arith, c.decreases, a.fewer_nodes), (a.ready, h.is_not_over, c.loop-i.invariant.2))
 
-pub returns-then-run-gt0-2-clause-walks : goal.returns-then-run-gt0-2-clause-walks
-returns-then-run-gt0-2-clause-walks t c =
-    let h = in_hand t (goal.at.returns-then-run-gt0-2-clause-walks t c).After-look in
-    walking_over ((walking_leads h c.in-Leads.is).gives c.walk.ensures.walks) h.start.words c.if-run-gt0-2.true
+pub returns-then-run-2-clause-walks : goal.returns-then-run-2-clause-walks
+returns-then-run-2-clause-walks t c =
+    let h = in_hand t (goal.at.returns-then-run-2-clause-walks t c).After-look in
+    walking_over ((walking_leads h c.in-Leads.is).gives c.walk.ensures.walks) h.start.words c.if-run-2.true
 
 pub loop-i-smaller : goal.loop-i-smaller
 loop-i-smaller t c = fewer_ahead t (goal.at.loop-i-smaller t c).After-look
@@ -77,7 +77,7 @@ loop-i-smaller t c = fewer_ahead t (goal.at.loop-i-smaller t c).After-look
 pub loop-i-preserved : goal.loop-i-preserved
 loop-i-preserved t c =
     let w = (walking_leads (in_hand t (goal.at.loop-i-preserved t c).After-look) c.in-Leads.is).gives c.walk.ensures.walks in
-    (walking_on w c.requires.1 c.if-run-gt0-2.false, rw c.next-i.ensures w, c.walk.ensures.stored)
+    (c.if-run-2.false, rw c.next-i.ensures w, c.walk.ensures.stored)
 
 pub returns-clause-walks : goal.returns-clause-walks
 returns-clause-walks t c = walking_end c.loop-i.invariant.1 c.requires.0.words (omega (arith, c.arc_count.ensures, c.loop-i-test.false))

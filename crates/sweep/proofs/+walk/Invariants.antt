@@ -1,11 +1,10 @@
--- `sweep::walk`: at each arc of the node's chain the cap is not passed, the sweep that the words say stands at that arc (`Walking`), and all that the
+-- `sweep::walk`: at each arc of the node's chain the cap is not passed, the sweep stands at that arc (`Walking`), and all that the
 -- store holds is true. The loop's measure is the arcs ahead, the recursion's the nodes not met. Assumes nothing.
-use Rattle.std.proofs.Common.{length, ◌-◌}
+use Rattle.std.proofs.Common.{length, ◌-◌, ◌≡◌, false}
 use Rattle.laws.specs.Sets.{unmet}
 use Rattle.net.specs.Net.{arcs_in}
 use Rattle.net.specs.Search.{behind}
 use Rattle.cores.specs.Cores.{Stored}
-use Rattle.sweep.specs.Run.{UnderWay}
 use Rattle.sweep.proofs.WalkLaws.{Walking}
 use Rattle.sweep.proofs.+walk.Given as goal
 
@@ -14,7 +13,7 @@ decreases-walk l = unmet 32 l.met
 
 abbrev pub invariant-loop-i : goal.invariant-loop-i
 invariant-loop-i l =
-    UnderWay l.run
+    (l.run.swept.tally.over ≡ false)
     × Walking l.net l.at (behind l.met l.metres (record { risks = l.risks; low = l.low; high = l.high })) l.fn.run l.run l.i
     × Stored l.net l.store
 

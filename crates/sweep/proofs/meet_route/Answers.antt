@@ -1,11 +1,12 @@
--- `sweep::meet_route` meets its contract: the tally that the words say goes to `end_route`, and what comes back is put into its place;
--- the store is as `end_route` left it. Assumes nothing.
-use Rattle.sweep.proofs.WalkLaws.{route_met}
+-- `sweep::meet_route` meets its contract: each return is one case of `ended`. Assumes nothing.
+use borrow.Author.Tests.{lt-ltb, le-ltb}
+use Rattle.sweep.specs.Sweep.{ended}
 use Rattle.sweep.proofs.meet_route.Goals as goal
 
-pub returns : goal.returns
-returns c =
-    record {
-      meets = route_met _ _ c.args.route c.args.last c.requires.2 c.end_route-u.result c.flag.result c.flag.ensures c.end_route-u.ensures.ended;
-      stored = c.end_route-u.ensures.stored;
-    }
+pub returns-then-route-run-clause-met : goal.returns-then-route-run-clause-met
+unfolding ended
+returns-then-route-run-clause-met c = rw (lt-ltb _ _ c.if-route-run.true)
+
+pub returns-clause-met : goal.returns-clause-met
+unfolding ended
+returns-clause-met c = rw (le-ltb _ _ c.if-route-run.false, c.try_main-run.ensures.tally)

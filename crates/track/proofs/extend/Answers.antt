@@ -4,4 +4,4 @@ use Rattle.track.proofs.extend.Goals as goal
 
 pub returns : goal.returns
 returns c =
-    fit_onward c.args.t c.requires.0 c.args.k c.args.metres c.args.e _ c.requires.1 c.requires.2 c.joined-r.ensures
+    fit_onward c.args.t c.requires.0 c.args.k c.args.metres c.args.e _ c.requires.1 c.requires.2 c.joined.ensures
