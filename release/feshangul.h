@@ -47,7 +47,7 @@ extern "C" {
 #define FESHANGUL_ALLOWANCE_MAX 1000000u
 #define FESHANGUL_MEND_BYTES_MAX 4096u   /* the longest table that is mended */
 #define FESHANGUL_CHANGE_BYTES 16u       /* one record of the list of what is lost */
-#define FESHANGUL_STACK_BYTES 24576u     /* stack to have left for a call; the most measured is 20,376 */
+#define FESHANGUL_STACK_BYTES 24576u     /* stack to have left for a call; the most measured is 19,273 */
 
 /* ---- The span table ---------------------------------------------------------------------------------------
  *

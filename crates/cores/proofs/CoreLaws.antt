@@ -79,6 +79,11 @@ stored_kept net {before} {after} k s = record {
 pub remembered : {core : Core} {before after : Cores} (number : ℕ) → number < length before.known → number < after.count → after.count ≤ most_cores
     → ((j : ℕ) → j < after.count → (j ≡ number → ⊥) → j < before.count) → after.known ≡ set before.known number core → Remembers core before after
 remembered {core} {before} {after} number room counted few old is = record {
+  number = number;
+  counted = counted;
+  is = rw is (get_or-set_same before.known number core no_core room);
+  put = is;
+  old = old;
   stored = λ net s n. record {
     sized = few;
     held = λ j h. elim (ℕ_discrete j number) [

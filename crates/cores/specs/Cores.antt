@@ -1,6 +1,6 @@
 -- Cores, which searches leave in a store beside their labels: no standby of a main that is exposed to so much, and bars such nodes, has a key below a bound.
 -- Assumes nothing.
-use Rattle.std.specs.Prelude.{ℕ, ◌≤◌, ◌<◌, true, ◌≡◌, get_or}
+use Rattle.std.specs.Prelude.{ℕ, ◌≤◌, ◌<◌, true, ◌≡◌, get_or, set}
 use Rattle.std.specs.Int.Bits.{bit_or}
 use Rattle.problem.specs.declared.Exposure.{Exposure}
 use Rattle.problem.specs.Exposures.{to_nothing}
@@ -59,6 +59,12 @@ pub record CoresKept (before after : Cores) : Type 0 where
   pub count_same : after.count ≡ before.count
   pub known_same : after.known ≡ before.known
 
--- where the core holds, so do all that are remembered, if they did before
+-- the core stands at a number that is counted, and at the others that are counted stand cores of before, where they were. Where it holds, so do all that are
+-- remembered, if they did before
 pub record Remembers (core : Core) (before after : Cores) : Type 0 where
+  pub number : ℕ
+  pub counted : number < after.count
+  pub is : core_of after number ≡ core
+  pub put : after.known ≡ set before.known number core
+  pub old : (j : ℕ) → j < after.count → (j ≡ number → ⊥) → j < before.count
   pub stored : (net : Net) → AllHold net before → CoreHolds net core → AllHold net after

@@ -115,7 +115,8 @@ pub struct Store {
 impl Store {
     // Nothing is remembered.
     pub fn none() -> Store
-        ensures { (net : Net) → Stored net result }
+        ensures stored { (net : Net) → Stored net result }
+        ensures empty { result.cores.count ≡ 0 }
     {
         Store {
             labels: Labels::none(),
@@ -155,6 +156,7 @@ fn still_holds(net: &Net, store: &mut Store, core: Core) -> bool
 fn less_exposed(net: &Net, store: &mut Store, core: Core) -> Core
     requires { IsNet net.now × CoreHolds net.now core }
     ensures holds { CoreHolds net.now result }
+    ensures same { (result.nodes ≡ core.nodes) × (result.bound ≡ core.bound) }
     ensures kept { CoresKept store.old.cores store.new.cores }
 {
     let mut least = core;
@@ -176,6 +178,7 @@ fn less_exposed(net: &Net, store: &mut Store, core: Core) -> Core
 fn fewer_nodes(net: &Net, store: &mut Store, core: Core) -> Core
     requires { IsNet net.now × CoreHolds net.now core }
     ensures holds { CoreHolds net.now result }
+    ensures same { (result.exposure ≡ core.exposure) × (result.bound ≡ core.bound) }
     ensures kept { CoresKept store.old.cores store.new.cores }
 {
     let mut least = core;

@@ -28,7 +28,7 @@ fn give(reply: &mut [u8], made: &Made) -> Verdict
     requires { (reply_size ≤ length reply.old) × Fit made.now.choice.main × Fit made.now.choice.standby }
     ensures { (result ≡ made.now.choice.verdict) × (reply.new ≡ record_of made.now ++ drop reply_size reply.old) }
 {
-    reply::write(reply, made);
+    reply::write_made(reply, made);
     made.choice.verdict
 }
 

@@ -40,15 +40,23 @@ struct Held {
     exposure: Exposure,
 }
 
-// Before any arc: no way is known that avoids anything. From the terminal, no arc at all avoids every risk.
+// Before any arc: no way is known that avoids anything. From the terminal, no arc at all avoids every risk. Filled place by place: what `map` makes of the entries
+// stands on the stack three times over.
 fn start(plain: [Distance; NODES], terminal: usize) -> [Held; NODES]
     requires { terminal ≤ last_node }
     ensures { result ≡ start_of plain terminal }
 {
-    let mut ways = plain.map(|entry| Held {
-        entry,
+    let all = Held {
+        entry: plain[terminal],
         exposure: exposure::all(),
-    });
+    };
+    let mut ways = [all; NODES];
+    for v in 0..NODES {
+        ways[v] = Held {
+            entry: plain[v],
+            ..all
+        };
+    }
     ways[terminal].exposure = exposure::nothing();
     ways
 }

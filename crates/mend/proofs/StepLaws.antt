@@ -2,7 +2,7 @@
 use Prim.Native.Nat.{ℕ, ◌+◌, ◌≤◌, ◌<◌}
 use mathlib.Core.Bool.{Bool, true, false}
 use mathlib.Core.List.{List, []}
-use mathlib.Core.Path.{◌≡◌, refl, sym, ap, ◌∙◌}
+use mathlib.Core.Path.{◌≡◌, refl, sym, ap, ◌∙◌, subst}
 use native.Mathlib.Omega.{arith}
 use lib.ListN.{length}
 use Rattle.std.specs.Prelude.{Option, Some, None, is_some, not, if◌then◌else◌}
@@ -18,7 +18,7 @@ use Rattle.problem.proofs.ChangeLaws.{change_length}
 use Rattle.octets.specs.Puts.{Puts}
 use Rattle.octets.proofs.PutLaws.{puts_none, puts_as}
 use Rattle.mend.specs.declared.Done.{Done}
-use Rattle.mend.specs.Steps.{table_part, list_part}
+use Rattle.mend.specs.Steps.{table_part, list_part, Stepped}
 
 module _ (input : List ℕ) {k : ℕ} (inside : k < whole_arcs input) where
   -- the fault that is found
@@ -46,22 +46,27 @@ module _ (input : List ℕ) {k : ℕ} (inside : k < whole_arcs input) where
   unfolding list_part
   lost_list e = ap (λ (r : Option Reason). if is_some r then change_bytes (changed k r (new_number input k)) else []) e
 
-  -- what the arm of a kept arc leaves, and that of a lost one
-  pub record Written (done next : Done) (table₀ table list₀ list : List ℕ) : Type 0 where
-    pub staying_same : next.staying ≡ done.staying
-    pub table_put : Puts (table_part input k) table₀ done.table table next.table
-    pub list_put : Puts (list_part input k) list₀ done.list list next.list
+  -- what the arm of a kept arc leaves, and that of a lost one, once the arc is counted
+  pub record Counted (done next : Done) : Type 0 where
+    pub staying_is : next.staying ≡ new_number input (k + 1)
+    pub table_same : next.table ≡ done.table
+    pub list_same : next.list ≡ done.list
 
-  pub kept_written : {done next : Done} {table₀ table list₀ list out bytes : List ℕ} {n : ℕ} → None ≡ reason_at input k → bytes ≡ record_at input k
-      → Puts bytes table₀ done.table out n → next ≡ record { staying = done.staying; table = n; list = done.list } → table ≡ out → list ≡ list₀ → Written done next table₀ table list₀ list
-  kept_written {done} {list₀ = list₀} kept is put next_is table_is list_is =
-      rw (next_is, table_is, list_is) record { staying_same = refl; table_put = puts_as (is ∙ kept_table kept) put; list_put = puts_as (kept_list kept) (puts_none list₀ done.list) }
+  pub kept_stepped : {done next : Done} {table₀ list₀ out bytes : List ℕ} {n : ℕ} → Counted done next → None ≡ reason_at input k → bytes ≡ record_at input k
+      → Puts bytes table₀ next.table out n → Stepped input k done (record { staying = next.staying; table = n; list = next.list }) table₀ out list₀ list₀
+  kept_stepped {done} {table₀ = table₀} {list₀} {out} {bytes} {n} c kept is put = record {
+    staying_is = c.staying_is;
+    table_put = puts_as (is ∙ kept_table kept) (subst (λ (at : ℕ). Puts bytes table₀ at out n) c.table_same put);
+    list_put = rw c.list_same (puts_as (kept_list kept) (puts_none list₀ done.list));
+  }
 
-  pub loss_written : {done next : Done} {table₀ table list₀ list out : List ℕ} {n : ℕ} {why : Reason} → Some why ≡ reason_at input k
-      → Puts (change_bytes (lost k (reason_number why))) list₀ done.list out n → next ≡ record { staying = done.staying; table = done.table; list = n } → table ≡ table₀ → list ≡ out
-      → Written done next table₀ table list₀ list
-  loss_written {done} {table₀ = table₀} lost put next_is table_is list_is =
-      rw (next_is, table_is, list_is) record { staying_same = refl; table_put = puts_as (lost_table lost) (puts_none table₀ done.table); list_put = puts_as (lost_list lost) put }
+  pub loss_stepped : {done next : Done} {table₀ list₀ out : List ℕ} {n : ℕ} {why : Reason} → Counted done next → Some why ≡ reason_at input k
+      → Puts (change_bytes (lost k (reason_number why))) list₀ next.list out n → Stepped input k done (record { staying = next.staying; table = next.table; list = n }) table₀ table₀ list₀ out
+  loss_stepped {done} {table₀ = table₀} {list₀} {out} {n} {why} c gone put = record {
+    staying_is = c.staying_is;
+    table_put = rw c.table_same (puts_as (lost_table gone) (puts_none table₀ done.table));
+    list_put = puts_as (lost_list gone) (subst (λ (at : ℕ). Puts (change_bytes (lost k (reason_number why))) list₀ at out n) c.list_same put);
+  }
 
   pub table_part_short : length (table_part input k) ≤ 16
   unfolding table_part

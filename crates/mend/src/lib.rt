@@ -33,14 +33,13 @@ fn put_lost(list: &mut [u8], at: usize, old: usize, why: Reason) -> usize
     requires { at + 16 ≤ length list.old }
     ensures { Puts (change_bytes (lost old (reason_number why))) list.old at list.new result }
 {
-    // Of each number the two low bytes, as the definitions have them, whatever its size.
-    let mut bytes = [0; ARC_BYTES];
-    bytes[0] = (old % 256) as u8;
-    bytes[1] = (old / 256 % 256) as u8;
-    bytes[2] = u8::from(why);
-    bytes[4] = (NO_NUMBER % 256) as u8;
-    bytes[5] = (NO_NUMBER / 256) as u8;
-    octets::copy(list, at, &bytes)
+    // Field by field: sixteen bytes that are first put together elsewhere and then copied take twice the instructions.
+    let reason = u8::from(why);
+    let next = octets::put_number(list, at, 2, old as u64);
+    let next = octets::put(list, next, reason);
+    let next = octets::put(list, next, 0);
+    let next = octets::put_number(list, next, 2, NO_NUMBER as u64);
+    octets::put_number(list, next, ARC_BYTES - 6, 0)
 }
 
 // How far the mending is: how many of the arcs looked at stay, and the places behind what is written of table and list.
@@ -57,15 +56,17 @@ fn mend_arc(input: &[u8], table: &mut [u8], list: &mut [u8], k: usize, done: &mu
     ensures { Stepped input.now k done.old done.new table.old table.new list.old list.new }
 {
     let fault = arcs::fault(arcs::arc_at(input, k));
-    match reason_for(fault, done.staying) {
+    let new = done.staying;
+    // Counted before the arms, not behind them: there the compiler goes to each reason by a table of jumps.
+    if fault.is_none() {
+        done.staying = new + 1;
+    }
+    match reason_for(fault, new) {
         None => {
             let start = ARC_BYTES * k;
             done.table = octets::copy(table, done.table, &input[start..start + ARC_BYTES]);
         }
         Some(why) => done.list = put_lost(list, done.list, k, why),
-    }
-    if fault.is_none() {
-        done.staying += 1;
     }
 }
 

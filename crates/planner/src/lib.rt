@@ -86,6 +86,8 @@ fn read_around(net: &mut Net, table: &[u8], set: Closed, q: Request, apart: bool
 }
 
 // Plans over a net that says some route, of which `floor` is the floor.
+// Not built into its caller, so that the store of the search is not on the stack yet while the call is read.
+#[inline(never)]
 fn plan_net(net: &Net, allowance: u32, floor: u8) -> Result<Made, Refusal>
     requires { Laid net.now.apart (mesh_in net.now) net.now floor × (0 < allowance) × (allowance ≤ most_allowance) }
     ensures { PlannedOver net.now.apart (mesh_in net.now) allowance result }

@@ -5,7 +5,7 @@ use Rattle.planner.specs.Planner.{NoneMade}
 use Rattle.planner.proofs.plan_net.Goals as goal
 
 pub plan-run-requires : goal.plan-run-requires
-plan-run-requires c = (c.requires.0.words, laid_planning c.requires.0 c.requires.1 c.requires.2, c.none-store.ensures c.args.net.now)
+plan-run-requires c = (c.requires.0.words, laid_planning c.requires.0 c.requires.1 c.requires.2, c.none-store.ensures.stored c.args.net.now)
 
 pub returns-in_err-choice : goal.returns-in_err-choice
 returns-in_err-choice c =

@@ -6,20 +6,20 @@ use mathlib.Core.Path.{◌≡◌, ap, ◌∙◌}
 use native.Mathlib.Omega.{arith}
 use lib.ListN.{length, drop}
 use Rattle.problem.specs.Table.{reply_size, bytes_of}
-use Rattle.problem.specs.Refusals.{verdict_number}
+use Rattle.problem.specs.Reply.{reply_of}
 use Rattle.octets.specs.Puts.{Puts}
 use Rattle.octets.proofs.PutLaws.{puts_next, puts_whole}
-use Rattle.reply.specs.Record.{record_of}
+use Rattle.track.specs.Track.{pair_in}
 use Rattle.reply.proofs.RecordLaws.{record_written, record_length}
 use Rattle.reply.proofs.write.Goals.{After-copy}
 use Rattle.reply.proofs.write.Goals as goal
 
 -- the record that is to be written, and its length
 abbrev record_at : After-copy → List ℕ
-record_at c = record_of c.args.made.now
+record_at c = reply_of c.args.verdict c.args.floor c.args.ranked (pair_in c.args.main c.args.standby)
 
 size : (c : After-copy) → length (record_at c) ≡ reply_size
-size c = record_length _ _ _ _ _ c.requires.1 c.requires.2
+size c = record_length c.args.verdict c.args.floor c.args.ranked c.args.main c.args.standby c.requires.1 c.requires.2
 
 -- all eight fields are put
 whole : (c : After-copy) → Puts (record_at c) c.args.reply.now 0 c.copy.new.out c.copy.result
@@ -27,8 +27,7 @@ whole c =
     let two = puts_next c.copy-at.ensures c.put_number-at.ensures in
     let four = puts_next (puts_next two c.put_number-at-2.ensures) c.put_number-at-3.ensures in
     let six = puts_next (puts_next four c.put_number-at-4.ensures) c.put_number-at-5.ensures in
-    let m = c.args.made.now in
-    rw (← record_written (verdict_number m.choice.verdict) m.floor m.choice.ranked m.choice.main m.choice.standby c.requires.1 c.requires.2 _ c.common-both.ensures c.size-shared.ensures.0 c.spans-spans.ensures.0 c.risks.ensures, ← c.from.ensures)
+    rw (← record_written c.args.verdict c.args.floor c.args.ranked c.args.main c.args.standby c.requires.1 c.requires.2 _ c.common-both.ensures c.size-shared.ensures.0 c.spans-spans.ensures.0 c.risks.ensures)
     (puts_next (puts_next six c.copy-at-2.ensures) c.copy.ensures)
 
 pub put_number-at-requires-2 : goal.put_number-at-requires-2

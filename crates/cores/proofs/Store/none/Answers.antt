@@ -3,5 +3,5 @@ use mathlib.Core.Path.{refl}
 use Rattle.cores.proofs.CoreLaws.{stored_none}
 use Rattle.cores.proofs.Store.none.Goals as goal
 
-pub returns : goal.returns
-returns c = λ net. stored_none net _ refl
+pub returns-clause-stored : goal.returns-clause-stored
+returns-clause-stored c = λ net. stored_none net _ refl
