@@ -39,15 +39,17 @@ pub fn arc_at(table: &[u8], i: usize) -> Arc
 pub fn fault(a: Arc) -> Option<Fault>
     ensures { result ≡ fault_of a }
 {
+    // By returns, not as one expression: as that the compiler computes both tests of a length and of the ends for every arc, before it goes on by either.
     if LAST_NODE < a.tail || LAST_NODE < a.head {
-        Some(Fault::Node)
-    } else if a.tail == a.head {
-        Some(Fault::EqualEnds)
-    } else if MOST_ARC_METRES < a.metres {
-        Some(Fault::Length)
-    } else {
-        None
+        return Some(Fault::Node);
     }
+    if a.tail == a.head {
+        return Some(Fault::EqualEnds);
+    }
+    if MOST_ARC_METRES < a.metres {
+        return Some(Fault::Length);
+    }
+    None
 }
 
 // An arc of more than 0 metres for which no risk is listed (T-09). That is no fault of the arc: the mender, which asks for faults alone, leaves it.
